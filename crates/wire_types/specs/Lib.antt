@@ -1,0 +1,4 @@
+pub mod Legs
+pub mod Numbers
+pub mod Records
+pub mod Refusals
