@@ -10,6 +10,8 @@ use Rattle.wire_types.specs.declared.code.Listing.{Listing}
 use Rattle.wire_types.specs.declared.code.Side.{Side}
 use Rattle.wire_types.specs.declared.code.Status.{Status}
 use Rattle.wire_types.specs.declared.instrument.Definition.{Definition}
+use Rattle.wire_types.specs.declared.instrument.Leg.{Leg}
+use Rattle.wire_types.specs.declared.instrument.Legs.{Legs}
 use Rattle.wire_types.specs.declared.instrument.Structure.{Structure}
 use Rattle.wire_types.specs.declared.instrument.Variance.{Variance}
 use Rattle.wire_types.specs.declared.message.EndOfDaySummary.{EndOfDaySummary}
@@ -36,9 +38,15 @@ pub data Makeup : Type 0 where
   spread : List LegRecord → Makeup
   variance-future : Variance → Makeup
 
+abbrev pub leg-meaning : Leg → LegRecord
+leg-meaning x = record { ratio = x .ratio; symbol = now (x .symbol) }
+
+abbrev pub legs-meaning : Legs → List LegRecord
+legs-meaning x = legs-in (now (x .bytes))
+
 abbrev pub makeup : Structure → Makeup
 makeup the-structure.Outright = outright
-makeup (the-structure.Spread legs) = spread (legs-in (now (legs .bytes)))
+makeup (the-structure.Spread legs) = spread (legs-meaning legs)
 makeup (the-structure.Variance v) = variance-future v
 
 -- what a Trading Status says

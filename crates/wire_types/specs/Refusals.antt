@@ -1,5 +1,6 @@
 -- The refusals by their numbers, and what each tells. Assumes nothing.
 use Prim.Native.Nat.{ℕ}
+use Rattle.std.specs.Results.{mapped}
 use Rattle.std.specs.declared.result.Result.{Result}
 use Rattle.std.specs.declared.result.Result.the-variants.{Ok, Err}
 use Rattle.wire_types.specs.declared.fault.Fault.{Fault}
@@ -48,11 +49,10 @@ abbrev pub and-then : {X Y E : Type 0} → Result X E → (X → Result Y E) →
 and-then (Ok x) f = f x
 and-then (Err e) f = Err e
 
--- an answer by what its two cases mean
-abbrev pub answer : {X Y E F : Type 0} → (X → Y) → (E → F) → Result X E → Result Y F
-answer f g (Ok x) = Ok (f x)
-answer f g (Err e) = Err (g e)
-
 -- the answer of a reader of one message, by what a value of it means
 abbrev pub reads : {X Y : Type 0} → (X → Y) → Result X Flaw → Result Y Breach
-reads f r = answer f breach-of r
+reads f r = mapped f breach-of r
+
+-- the answer of a reader of blocks
+abbrev pub answers : {X Y : Type 0} → (X → Y) → Result X Fault → Result Y Refusal
+answers f r = mapped f refusal-of r

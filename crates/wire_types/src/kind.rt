@@ -1,8 +1,16 @@
 // The listed types of messages.
 
-/// What a type byte names.
-#[derive(Clone, Copy, Debug, PartialEq, Eq)]
+/// What a type byte names: a type whose table has one length, a definition, or nothing that is listed.
+#[derive(Clone, Copy)]
 pub enum Kind {
+    Fixed(FixedKind),
+    Definition,
+    Unlisted,
+}
+
+/// The types whose table has one length.
+#[derive(Clone, Copy)]
+pub enum FixedKind {
     Time,
     TimeReference,
     UnitClear,
@@ -15,7 +23,6 @@ pub enum Kind {
     TwoSideLong,
     TopTrade,
     Settlement,
-    Definition,
     PriceLimits,
     EndOfSession,
     EndOfDaySummary,
@@ -23,5 +30,4 @@ pub enum Kind {
     SpinImageAvailable,
     SpinResponse,
     SpinFinished,
-    Unlisted,
 }

@@ -23,6 +23,7 @@ pub use instrument::Leg;
 pub use instrument::Legs;
 pub use instrument::Structure;
 pub use instrument::Variance;
+pub use kind::FixedKind;
 pub use kind::Kind;
 pub use message::EndOfDaySummary;
 pub use message::Message;

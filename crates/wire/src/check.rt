@@ -1,0 +1,54 @@
+// The check of a whole block: every refusal of 4 to 12 before anything is done with it.
+ghost use Rattle.wire_types.specs.Refusals.{answers};
+ghost use Rattle.wire.specs.Blocks.{checked, header-rules, for-unit, in-range, behind-messages, nothing-left};
+ghost use Rattle.wire.specs.Reading.{standing};
+ghost use Rattle.wire_types.specs.declared.header.Carrier.the-variants as the-carrier;
+ghost use lib.ListN.{length};
+ghost use mathlib.Core.Path.{_≡_};
+use crate::reader::Reader;
+use wire_types::Carrier;
+use wire_types::Fault;
+use wire_types::Header;
+use wire_types::Layer;
+use wire_types::Why;
+
+/// Accepts a datagram of the unit with its header, or tells the first fault.
+pub fn check_datagram(unit: u8, block: &[u8]) -> Result<Header, Fault>
+    ensures { λ r. ⌜ answers (λ h. h) r ≡ checked the-carrier.Datagram unit (now (block .entry)) ⌝ }
+{
+    check_block(Carrier::Datagram, unit, block)
+}
+
+/// Accepts a spin block for the unit with its header, or tells the first fault.
+pub fn check_spin_block(unit: u8, block: &[u8]) -> Result<Header, Fault>
+    ensures { λ r. ⌜ answers (λ h. h) r ≡ checked the-carrier.Spin unit (now (block .entry)) ⌝ }
+{
+    check_block(Carrier::Spin, unit, block)
+}
+
+fn check_block(carrier: Carrier, unit: u8, block: &[u8]) -> Result<Header, Fault>
+    ensures { λ r. ⌜ answers (λ h. h) r ≡ checked carrier unit (now (block .entry)) ⌝ }
+{
+    let mut reader = Reader::new(carrier, block);
+    let header = reader.header()?;
+    check_header(carrier, unit, block.len(), header)?;
+    let left = pass_messages(reader)?;
+    if left != 0 {
+        return Err(in_header(Why::LeftOver, block.len() - left));
+    }
+    Ok(header)
+}
+
+fn in_header(why: Why, byte: usize) -> Fault {
+    Fault {
+        why,
+        layer: Layer::Header,
+        byte,
+    }
+}
+
+fn is_for(unit: u8, header: Header) -> bool
+    ensures { λ r. ⌜ r ≡ for-unit unit header ⌝ }
+{
+    header.unit == unit || header.unit == 0 && header.sequence == 0
+}
