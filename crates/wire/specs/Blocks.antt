@@ -1,8 +1,8 @@
 -- A whole block: accepted with its header, or the first refusal that fits. Assumes nothing.
 use Prim.Native.Nat.{ℕ, zero, suc, _+_, _-_}
-use mathlib.Core.Bool.{Bool, cond, not, _&&_}
+use mathlib.Core.Bool.{Bool, cond, _&&_, _||_}
 use mathlib.Core.List.{List}
-use lib.Dec.{leb, ltb, eqb}
+use lib.Dec.{leb, eqb}
 use lib.ListN.{getD, length, drop}
 use Rattle.std.specs.declared.result.Result.{Result}
 use Rattle.std.specs.declared.result.Result.the-variants.{Ok, Err}
@@ -13,15 +13,15 @@ use Rattle.wire_types.specs.declared.fault.Layer.the-variants as the-layer
 use Rattle.wire_types.specs.declared.header.Carrier.{Carrier}
 use Rattle.wire_types.specs.declared.header.Carrier.the-variants.{Datagram, Spin}
 use Rattle.wire_types.specs.declared.header.Header.{Header}
-use Rattle.wire.specs.Reading.{header-at, placed}
+use Rattle.wire.specs.Reading.{Standing, header-at, placed}
 
 -- Hdr Unit is the unit asked for, or Hdr Unit and Hdr Sequence are 0
 abbrev pub for-unit : ℕ → Header → Bool
-for-unit unit h = cond (eqb (h .unit) unit) (eqb unit unit) (eqb (h .unit) 0 && eqb (h .sequence) 0)
+for-unit unit h = eqb (h .unit) unit || eqb (h .unit) 0 && eqb (h .sequence) 0
 
 -- Hdr Sequence is in range: in a datagram 0, or such that no message's number passes 4,294,967,295; in a spin block 0
 abbrev pub in-range : Carrier → Header → Bool
-in-range Datagram h = cond (eqb (h .sequence) 0) (eqb (h .sequence) 0) (leb (h .sequence + h .count) 4294967296)
+in-range Datagram h = eqb (h .sequence) 0 || leb (h .sequence + h .count) 4294967296
 in-range Spin h = eqb (h .sequence) 0
 
 -- what a header breaks in a block of so many bytes
@@ -40,6 +40,10 @@ behind-messages carrier zero place bytes = Ok bytes
 behind-messages carrier (suc k) place bytes =
     and-then (mapped (λ x. x) (placed place) (decoded carrier bytes)) (λ _. behind-messages carrier k (place + 1) (drop (getD bytes 0 0) bytes))
 
+-- how many bytes a reader leaves behind the messages of its block
+abbrev pub left-behind : Standing → Result ℕ Refusal
+left-behind s = mapped length (λ e. e) (behind-messages (s .carrier) (s .count - s .place) (s .place) (s .ahead))
+
 -- refusal 12, unless nothing is left of a block of so many bytes
 abbrev pub nothing-left : ℕ → Header → ℕ → Result Header Refusal
 nothing-left bytes h left = cond (eqb left 0) (Ok h) (Err (refusal 12 the-layer.Header (bytes - left)))
@@ -49,5 +53,5 @@ abbrev pub checked : Carrier → ℕ → List ℕ → Result Header Refusal
 checked carrier unit b =
     and-then (header-at b) (λ h.
     and-then (header-rules carrier unit (length b) h) (λ _.
-    and-then (behind-messages carrier (h .count) 0 (drop 8 b)) (λ rest.
-    nothing-left (length b) h (length rest))))
+    and-then (mapped length (λ e. e) (behind-messages carrier (h .count) 0 (drop 8 b))) (λ left.
+    nothing-left (length b) h left)))

@@ -1,7 +1,8 @@
 // The check of a whole block: every refusal of 4 to 12 before anything is done with it.
-ghost use Rattle.wire_types.specs.Refusals.{answers};
-ghost use Rattle.wire.specs.Blocks.{checked, header-rules, for-unit, in-range, behind-messages, nothing-left};
+ghost use Rattle.wire_types.specs.Refusals.{answers, number-of, refusal, refusal-of};
+ghost use Rattle.wire.specs.Blocks.{checked, header-rules, for-unit, in-range, left-behind};
 ghost use Rattle.wire.specs.Reading.{standing};
+ghost use Rattle.wire_types.specs.declared.fault.Layer.the-variants as the-layer;
 ghost use Rattle.wire_types.specs.declared.header.Carrier.the-variants as the-carrier;
 ghost use lib.ListN.{length};
 ghost use mathlib.Core.Path.{_≡_};
@@ -39,16 +40,53 @@ fn check_block(carrier: Carrier, unit: u8, block: &[u8]) -> Result<Header, Fault
     Ok(header)
 }
 
-fn in_header(why: Why, byte: usize) -> Fault {
+/// What the header breaks in a block of so many bytes.
+fn check_header(carrier: Carrier, unit: u8, bytes: usize, header: Header) -> Result<Header, Fault>
+    ensures { λ r. ⌜ answers (λ h. h) r ≡ header-rules carrier unit bytes header ⌝ }
+{
+    if header.length as usize != bytes {
+        return Err(in_header(Why::BlockLength, 0));
+    }
+    if !is_for_unit(unit, header) {
+        return Err(in_header(Why::OtherUnit, 3));
+    }
+    if !is_in_range(carrier, header) {
+        return Err(in_header(Why::SequenceRange, 4));
+    }
+    Ok(header)
+}
+
+fn is_for_unit(unit: u8, header: Header) -> bool
+    ensures { λ r. ⌜ r ≡ for-unit unit header ⌝ }
+{
+    header.unit == unit || header.unit == 0 && header.sequence == 0
+}
+
+fn is_in_range(carrier: Carrier, header: Header) -> bool
+    ensures { λ r. ⌜ r ≡ in-range carrier header ⌝ }
+{
+    match carrier {
+        Carrier::Datagram => {
+            header.sequence == 0 || header.sequence as u64 + header.count as u64 <= 4_294_967_296
+        }
+        Carrier::Spin => header.sequence == 0,
+    }
+}
+
+/// How many bytes stand behind the block's messages.
+fn pass_messages(mut reader: Reader<'_>) -> Result<usize, Fault>
+    ensures { λ r. ⌜ answers (λ n. n) r ≡ left-behind (standing (reader .entry)) ⌝ }
+{
+    while let Some(_) = reader.message()? {}
+    Ok(reader.left())
+}
+
+fn in_header(why: Why, byte: usize) -> Fault
+    ensures { λ r. ⌜ refusal-of r ≡ refusal (number-of why) the-layer.Header byte ⌝ }
+{
     Fault {
         why,
         layer: Layer::Header,
         byte,
     }
-}
-
-fn is_for(unit: u8, header: Header) -> bool
-    ensures { λ r. ⌜ r ≡ for-unit unit header ⌝ }
-{
-    header.unit == unit || header.unit == 0 && header.sequence == 0
 }
