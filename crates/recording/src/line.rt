@@ -1,10 +1,13 @@
 // A line of a recording.
+ghost use Rattle.recording.specs.Faults.{fault-words};
 ghost use Rattle.recording.specs.declared.line.BadLine.the-variants.{Memory};
+ghost use Rattle.std.specs.declared.option.Option.the-variants.{Some};
 ghost use mathlib.Core.Path.{_≡_};
 use crate::hex::bytes_of_hex;
 use std::alloc::AllocError;
 use std::alloc::Global;
 use std::alloc::Refused;
+use std::fmt;
 use wire_types::Carrier;
 
 /// What a line says.
@@ -38,6 +41,26 @@ pub impl<T: Drop> From<Refused<T>> for BadLine as BadLineFromRefused {
 
     fn from(_e: Refused<T>) -> BadLine {
         BadLine::Memory
+    }
+}
+
+pub impl fmt::Display for BadLine as BadLineDisplay {
+    ghost shown = { λ bad. Some (fault-words bad) };
+
+    fn fmt<W: fmt::Write>(&self, f: &mut fmt::Formatter<W>) -> fmt::Result {
+        match self {
+            BadLine::Memory => f.write_str("no memory"),
+            BadLine::NoHex => f.write_str("no hex"),
+            BadLine::NoUnit => f.write_str("no unit"),
+        }
+    }
+}
+
+/// The text of a line as it was read, without its end. What is no text is no hex either.
+pub fn line_text(line: &[u8]) -> Result<&str, BadLine> {
+    match std::str::from_utf8(line) {
+        Ok(text) => Ok(text.trim_end_matches(['\r', '\n'])),
+        Err(_) => Err(BadLine::NoHex),
     }
 }
 
