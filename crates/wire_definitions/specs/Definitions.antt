@@ -56,14 +56,16 @@ variance-at m at =
       «fed_funds_rate» = signed 8 (le 8 m (at + 44))
     }
 
--- what the instrument is made of; refusal 11 at Leg Count where the rule is broken
-abbrev pub makeup-at : List ℕ → Result Makeup Breach
-makeup-at m =
-    cond (keeps-leg-rule m)
-    (cond (is-variance m) (Ok (variance-future (variance-at m 45)))
+-- what an instrument is made of that keeps the rule
+abbrev pub parts-at : List ℕ → Result Makeup Breach
+parts-at m =
+    cond (is-variance m) (Ok (variance-future (variance-at m 45)))
     (cond (eqb (leg-count m) 0) (Ok outright)
-    (and-then (legs-at m (leg-count m) 45) (λ legs. Ok (spread legs)))))
-    (Err (breach 11 38))
+    (and-then (legs-at m (leg-count m) 45) (λ legs. Ok (spread legs))))
+
+-- what an instrument is made of; refusal 11 at Leg Count where the rule is broken
+abbrev pub makeup-at : List ℕ → Result Makeup Breach
+makeup-at m = cond (keeps-leg-rule m) (parts-at m) (Err (breach 11 38))
 
 abbrev pub definition-at : List ℕ → Result Record Breach
 definition-at m =

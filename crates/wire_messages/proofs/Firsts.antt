@@ -13,7 +13,7 @@ use Rattle.std.specs.declared.option.Option.{Option}
 use Rattle.std.specs.declared.option.Option.the-variants.{Some, None}
 use Rattle.std.specs.declared.result.Result.{Result}
 use Rattle.std.specs.declared.result.Result.the-variants.{Ok, Err}
-use Rattle.wire_definitions.specs.Definitions.{definition-at, makeup-at, legs-at, variance-at, first-bad-leg, keeps-leg-rule, is-variance, leg-count}
+use Rattle.wire_definitions.specs.Definitions.{definition-at, makeup-at, parts-at, first-bad-leg, keeps-leg-rule, is-variance, leg-count}
 use Rattle.wire_fields.specs.Codes.{code-at, listed, side-of, status-of, condition-of, issue-of, listing-of}
 use Rattle.wire_fields.specs.Symbols.{first-bad, unless-bad, symbol-at}
 use Rattle.wire_messages.proofs.Tests.{first-of, first-fail, Ordered}
@@ -21,7 +21,7 @@ use Rattle.wire_messages.specs.Forms.{fixed-at}
 use Rattle.wire_messages.specs.Kinds.{table-length}
 use Rattle.wire_messages.specs.Rules.{Test, fixed-tests, tests, leg-symbols}
 use Rattle.wire_types.specs.Legs.{LegRecord}
-use Rattle.wire_types.specs.Records.{Record, Makeup, outright, spread, variance-future}
+use Rattle.wire_types.specs.Records.{Record, Makeup, outright, spread}
 use Rattle.wire_types.specs.Refusals.{Breach, breach, and-then}
 use Rattle.wire_types.specs.declared.kind.FixedKind.{FixedKind}
 use Rattle.wire_types.specs.declared.kind.FixedKind.the-variants as the
@@ -147,7 +147,7 @@ no-variance-legs m h e = grind (arith, tells)
 -- what it is made of, where the rule is kept: the symbols of its legs
 pub makeup-first : (m : List ℕ) → keeps-leg-rule m ≡ true → errPart (makeup-at m) ≡ at-byte (first-fail (leg-symbols (leg-count m) 45) m)
 makeup-first m h =
-    ap (λ v. errPart (cond v (cond (is-variance m) (Ok (variance-future (variance-at m 45))) (cond (eqb (leg-count m) 0) (Ok outright) (and-then (legs-at m (leg-count m) 45) (λ legs. Ok (spread legs))))) (Err (breach 11 38)))) h
+    ap (λ v. errPart (cond v (parts-at m) (Err (breach 11 38)))) h
     ∙ made (is-variance m) (eqb (leg-count m) 0) _ (first-bad-leg (leg-count m) m 45) _ _
     (λ e. no-legs (leg-count m) m (no-variance-legs m h e))
     (λ e. no-legs (leg-count m) m (grind (arith, tells)))

@@ -1,31 +1,35 @@
 -- What a reader answers, by the rules: a message is sound, or the first rule that it breaks is told.
-use mathlib.Core.Path.{_≡_, refl, sym, ap, _∙_}
+use mathlib.Core.Path.{_≡_, refl, sym, ap, subst, _∙_}
 use mathlib.Core.Bool.{Bool, true, false, cond, _&&_}
 use mathlib.Core.List.{List}
 use mathlib.Core.Logic.{_⊎_, inl, inr, ⊎-elim}
 use Prim.Native.Nat.{ℕ, _+_, _*_, _<_, _≤_}
-use borrow.Author.Tests.{ltb-true, ltb-false}
+use borrow.Author.Tests.{ltb-true, ltb-false, leb-true, leb-false}
 use native.Mathlib.Omega.{arith}
 use lib.Dec.{ltb, leb}
 use lib.ListN.{getD, length, take}
 use Rattle.std.proofs.shelf.Ways.{tells}
 use Rattle.std.specs.Options.{orOther}
-use Rattle.std.specs.Results.{errPart}
+use Rattle.std.specs.Results.{errPart, Cases}
 use Rattle.std.specs.declared.option.Option.{Option}
 use Rattle.std.specs.declared.option.Option.the-variants.{Some, None}
 use Rattle.std.specs.declared.result.Result.{Result}
 use Rattle.std.specs.declared.result.Result.the-variants.{Ok, Err}
 use Rattle.wire_definitions.specs.Definitions.{definition-at, makeup-at, keeps-leg-rule, leg-count}
 use Rattle.wire_messages.proofs.Firsts.{at-byte, by-first-fail, fixed-first, fixed-ordered, definition-first, definition-ordered, legs-ordered, makeup-first}
+use Rattle.wire_messages.proofs.Tails.{framed-form, tail-ignored}
 use Rattle.wire_messages.proofs.Tests.{first-fail, first-fail-none, first-fail-some, outside-front, outside-whole, or-none, or-some}
 use Rattle.wire_messages.specs.Forms.{fixed-at, kind-at, form-at, form, frame, decoded}
 use Rattle.wire_messages.specs.Kinds.{least, table-length}
 use Rattle.wire_messages.specs.Rules.{Within, Lowest, Sound, Breaks, too-short, not-listed, rule-broken, leg-not-listed, Framed, Good, Refused, not-framed, broken, fixed-tests, tests, leg-symbols, front, front-kind}
-use Rattle.wire_types.specs.Records.{Record}
-use Rattle.wire_types.specs.Refusals.{Breach, breach, and-then}
+use Rattle.wire_messages.specs.Tails.{Taken}
+use Rattle.wire_types.specs.Records.{Record, meaning}
+use Rattle.wire_types.specs.Refusals.{Breach, breach, breach-of, and-then, reads}
+use Rattle.wire_types.specs.declared.fault.Flaw.{Flaw}
 use Rattle.wire_types.specs.declared.header.Carrier.{Carrier}
 use Rattle.wire_types.specs.declared.kind.FixedKind.{FixedKind}
 use Rattle.wire_types.specs.declared.kind.Kind.{Kind}
+use Rattle.wire_types.specs.declared.message.Message.{Message}
 use Rattle.wire_types.specs.declared.kind.Kind.the-variants as the-kind
 
 -- an answer says of a message of a kind what holds of it
@@ -99,3 +103,33 @@ judge-length k m false e = judge-kind k m (ltb-false _ _ e)
 -- any message
 pub judge : (k : Kind) (m : List ℕ) → Judged k m (form-at k m)
 judge k m = judge-length k m (ltb (length m) (least k)) refl
+
+-- an answer says of bytes what holds of the message in front
+abbrev pub Told : Carrier → List ℕ → Result Record Breach → Type 0
+Told carrier bytes (Ok x) = Taken carrier bytes x
+Told carrier bytes (Err e) = Refused carrier bytes e
+
+tell-framed : (carrier : Carrier) (bytes : List ℕ) (r : Result Record Breach) → Framed bytes → decoded carrier bytes ≡ r → Judged (front-kind carrier bytes) (front bytes) r → Told carrier bytes r
+tell-framed carrier bytes (Ok x) f h j = record { good = (f, j); tail = tail-ignored carrier bytes x f j h }
+tell-framed carrier bytes (Err e) f h j = broken f j
+
+framed-or-not : (bytes : List ℕ) → Framed bytes ⊎ ((Framed bytes → ⊥) × (frame bytes ≡ Err (breach 8 0)))
+framed-or-not bytes = by-test (leb 2 (getD bytes 0 0)) (leb (getD bytes 0 0) (length bytes)) refl refl
+  where
+    by-test : (a b : Bool) → leb 2 (getD bytes 0 0) ≡ a → leb (getD bytes 0 0) (length bytes) ≡ b → Framed bytes ⊎ ((Framed bytes → ⊥) × (frame bytes ≡ Err (breach 8 0)))
+    by-test true true p q = inl (leb-true _ _ p, leb-true _ _ q)
+    by-test true false p q = inr ((λ f. let l = leb-false _ _ q in omega (arith, f .1)), rw (p, q) refl)
+    by-test false b p q = inr ((λ f. let l = leb-false _ _ p in omega (arith, f .0)), rw p refl)
+
+-- any bytes
+pub tell : (carrier : Carrier) (bytes : List ℕ) → Told carrier bytes (decoded carrier bytes)
+tell carrier bytes =
+    ⊎-elim
+    (λ f. tell-framed carrier bytes (decoded carrier bytes) f refl (subst (Judged (front-kind carrier bytes) (front bytes)) (sym (framed-form carrier bytes f)) (judge (front-kind carrier bytes) (front bytes))))
+    (λ n. subst (Told carrier bytes) (sym (ap (λ r. and-then r (λ m. form carrier m)) (n .1))) (not-framed (n .0) refl))
+    (framed-or-not bytes)
+
+-- a reader's answer
+pub told-cases : (carrier : Carrier) (bytes : List ℕ) (r : Result Message Flaw) → reads meaning r ≡ decoded carrier bytes → Cases r (λ x. Taken carrier bytes (meaning x)) (λ e. Refused carrier bytes (breach-of e))
+told-cases carrier bytes (Ok x) h = subst (Told carrier bytes) (sym h) (tell carrier bytes)
+told-cases carrier bytes (Err e) h = subst (Told carrier bytes) (sym h) (tell carrier bytes)

@@ -3,6 +3,8 @@ ghost use Prim.Native.Nat.{_≤_};
 ghost use Rattle.std.specs.Results.{Cases};
 ghost use Rattle.wire_messages.specs.Forms.{decoded, fixed-at, form, form-at, frame as framed, kind-at};
 ghost use Rattle.wire_messages.specs.Kinds.{least, table-length};
+ghost use Rattle.wire_messages.specs.Rules.{Refused};
+ghost use Rattle.wire_messages.specs.Tails.{Taken};
 ghost use Rattle.wire_types.specs.Records.{meaning};
 ghost use Rattle.wire_types.specs.Refusals.{breach, breach-of, reads};
 ghost use lib.ListN.{length};
@@ -40,10 +42,10 @@ use wire_types::Why;
 /// The message in front of the bytes, as a datagram or a spin block has it; or the first rule that it breaks, with the lowest byte.
 /// What stands behind the message is not looked at.
 pub fn decode<'a>(carrier: Carrier, bytes: &'a [u8]) -> Result<Message<'a>, Flaw>
-    ensures { λ r. ⌜ reads meaning r ≡ decoded carrier (now (bytes .entry)) ⌝ }
+    ensures value { λ r. ⌜ reads meaning r ≡ decoded carrier (now (bytes .entry)) ⌝ }
+    ensures law { λ r. ⌜ Cases r (λ x. Taken carrier (now (bytes .entry)) (meaning x)) (λ e. Refused carrier (now (bytes .entry)) (breach-of e)) ⌝ }
 {
-    let m = frame(bytes)?;
-    read_kind(kind_of(carrier, m[1]), m)
+    read_front(carrier, bytes)
 }
 
 /// The bytes of the message in front, as many as its Length says.
@@ -63,6 +65,13 @@ pub fn frame<'a>(bytes: &'a [u8]) -> Result<&'a [u8], Flaw>
         return Err(flaw);
     }
     Ok(&bytes[0..length])
+}
+
+fn read_front<'a>(carrier: Carrier, bytes: &'a [u8]) -> Result<Message<'a>, Flaw>
+    ensures { λ r. ⌜ reads meaning r ≡ decoded carrier (now (bytes .entry)) ⌝ }
+{
+    let m = frame(bytes)?;
+    read_kind(kind_of(carrier, m[1]), m)
 }
 
 fn read_kind<'a>(kind: Kind, m: &'a [u8]) -> Result<Message<'a>, Flaw>
