@@ -1,6 +1,8 @@
 // The check of a whole block: every refusal of 4 to 12 before anything is done with it.
+ghost use Rattle.std.specs.Results.{Cases};
 ghost use Rattle.wire_types.specs.Refusals.{answers, number-of, refusal, refusal-of};
 ghost use Rattle.wire.specs.Blocks.{checked, header-rules, for-unit, in-range, left-behind};
+ghost use Rattle.wire.specs.Laws.{Accepted, First-fault};
 ghost use Rattle.wire.specs.Reading.{standing};
 ghost use Rattle.wire_types.specs.declared.fault.Layer.the-variants as the-layer;
 ghost use Rattle.wire_types.specs.declared.header.Carrier.the-variants as the-carrier;
@@ -15,14 +17,16 @@ use wire_types::Why;
 
 /// Accepts a datagram of the unit with its header, or tells the first fault.
 pub fn check_datagram(unit: u8, block: &[u8]) -> Result<Header, Fault>
-    ensures { λ r. ⌜ answers (λ h. h) r ≡ checked the-carrier.Datagram unit (now (block .entry)) ⌝ }
+    ensures value { λ r. ⌜ answers (λ h. h) r ≡ checked the-carrier.Datagram unit (now (block .entry)) ⌝ }
+    ensures law { λ r. ⌜ Cases r (λ h. Accepted the-carrier.Datagram unit (now (block .entry)) h) (λ f. First-fault the-carrier.Datagram unit (now (block .entry)) (refusal-of f)) ⌝ }
 {
     check_block(Carrier::Datagram, unit, block)
 }
 
 /// Accepts a spin block for the unit with its header, or tells the first fault.
 pub fn check_spin_block(unit: u8, block: &[u8]) -> Result<Header, Fault>
-    ensures { λ r. ⌜ answers (λ h. h) r ≡ checked the-carrier.Spin unit (now (block .entry)) ⌝ }
+    ensures value { λ r. ⌜ answers (λ h. h) r ≡ checked the-carrier.Spin unit (now (block .entry)) ⌝ }
+    ensures law { λ r. ⌜ Cases r (λ h. Accepted the-carrier.Spin unit (now (block .entry)) h) (λ f. First-fault the-carrier.Spin unit (now (block .entry)) (refusal-of f)) ⌝ }
 {
     check_block(Carrier::Spin, unit, block)
 }
