@@ -64,7 +64,7 @@ one-more carrier k place bytes (Ok rest) g w =
       messages = front bytes ∷ w .messages;
       counted = ap suc (w .counted);
       laid = sym (take-append-drop (getD bytes 0 0) bytes) ∙ ap (λ b. front bytes ++ b) (w .laid) ∙ sym (append-assoc (front bytes) (end-to-end (w .messages)) rest);
-      whole = (front-whole carrier bytes g, w .whole)
+      whole = (front-whole carrier bytes g, w .whole);
     }
 one-more carrier k place bytes (Err f) g w =
     let n = w .fewer in
@@ -77,7 +77,7 @@ one-more carrier k place bytes (Err f) g w =
       laid = sym (take-append-drop (getD bytes 0 0) bytes) ∙ ap (λ b. front bytes ++ b) (w .laid) ∙ sym (append-assoc (front bytes) (end-to-end (w .before)) (w .rest));
       whole = (front-whole carrier bytes g, w .whole);
       refused = w .refused;
-      told = w .told ∙ ap (λ p. placed p (w .breach)) e
+      told = w .told ∙ ap (λ p. placed p (w .breach)) e;
     }
 
 one-step : (carrier : Carrier) (k place : ℕ) (bytes : List ℕ) (d : Result Record Breach) (next : Result (List ℕ) Refusal) → Told carrier bytes d → Walked carrier k (place + 1) (drop (getD bytes 0 0) bytes) next → Walked carrier (suc k) place bytes (and-then (mapped (λ x. x) (placed place) d) (λ _. next))
@@ -118,7 +118,7 @@ all-passed carrier unit b rest true e o w =
       «open» = o;
       messages = w .messages;
       counted = w .counted;
-      begins = begin carrier b (w .messages) [] (w .laid ∙ ap (λ r. end-to-end (w .messages) ++ r) nothing) (w .whole)
+      begins = begin carrier b (w .messages) [] (w .laid ∙ ap (λ r. end-to-end (w .messages) ++ r) nothing) (w .whole);
     }
 all-passed carrier unit b rest false e o w =
     let some = eqb-false _ _ e in

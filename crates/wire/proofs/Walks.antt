@@ -14,16 +14,15 @@ use Rattle.std.specs.declared.option.Option.{Option}
 use Rattle.std.specs.declared.option.Option.the-variants.{Some, None}
 use Rattle.std.specs.declared.result.Result.{Result}
 use Rattle.std.specs.declared.result.Result.the-variants.{Ok, Err}
-use Rattle.wire_messages.specs.Forms.{decoded}
 use Rattle.wire_types.specs.Records.{Record}
 use Rattle.wire_types.specs.Refusals.{Refusal, refusal, and-then}
 use Rattle.wire_types.specs.declared.fault.Layer.the-variants as the-layer
 use Rattle.wire_types.specs.declared.header.Carrier.{Carrier}
 use Rattle.wire_types.specs.declared.header.Header.{Header}
 use Rattle.wire.specs.Blocks.{behind-messages, left-behind, checked, header-rules, nothing-left}
-use Rattle.wire.specs.Reading.{Standing, at-start, header-at, header-of, after-header, behind-header, header-step, message-ahead, message-step, after-message, behind-message, moved, placed}
+use Rattle.wire.specs.Reading.{Standing, at-start, header-at, header-of, after-header, behind-header, header-step, message-ahead, message-step, after-message, behind-message, message-at, moved}
 
-pub step : (carrier : Carrier) (k place : ℕ) (bytes : List ℕ) → 0 < k → behind-messages carrier k place bytes ≡ and-then (mapped (λ x. x) (placed place) (decoded carrier bytes)) (λ _. behind-messages carrier (k - 1) (place + 1) (drop (getD bytes 0 0) bytes))
+pub step : (carrier : Carrier) (k place : ℕ) (bytes : List ℕ) → 0 < k → behind-messages carrier k place bytes ≡ and-then (message-at carrier place bytes) (λ _. behind-messages carrier (k - 1) (place + 1) (drop (getD bytes 0 0) bytes))
 unfolding behind-messages
 step carrier zero place bytes h = absurd (omega arith)
 step carrier (suc k) place bytes h = let e : suc k - 1 ≡ k = omega arith in rw e refl
@@ -60,7 +59,7 @@ module _ (s : Standing) where
       let there : t ≡ behind-message s = e ∙ sym (ap (λ r. moved r s (behind-message s)) h) in
       let p : s .count - s .place - 1 ≡ s .count - (s .place + 1) = omega arith in
       let on : behind-messages (s .carrier) (s .count - s .place) (s .place) (s .ahead) ≡ behind-messages (s .carrier) (s .count - (s .place + 1)) (s .place + 1) (drop (getD (s .ahead) 0 0) (s .ahead)) =
-          step (s .carrier) (s .count - s .place) (s .place) (s .ahead) (omega arith) ∙ some-goes (message-ahead s) y _ (h ∙ inside s lt) ∙ rw p refl in
+      step (s .carrier) (s .count - s .place) (s .place) (s .ahead) (omega arith) ∙ some-goes (message-ahead s) y _ (h ∙ inside s lt) ∙ rw p refl in
       subst (λ u. (left-behind s ≡ left-behind u) × (u .count - u .place < s .count - s .place)) (sym there)
       (ap (mapped length (λ e. e)) on, omega arith)
 
@@ -90,7 +89,7 @@ pub shrinks : (carrier : Carrier) (k place : ℕ) (bytes rest : List ℕ) → be
 unfolding behind-messages
 shrinks carrier zero place bytes rest h = let e : bytes ≡ rest = cc in subst (λ b. length rest ≤ length b) (sym e) (omega arith)
 shrinks carrier (suc k) place bytes rest h =
-    let on : length rest ≤ length (drop (getD bytes 0 0) bytes) = shrinks carrier k (place + 1) (drop (getD bytes 0 0) bytes) rest (ok-after _ _ rest h) in
+    let on : length rest ≤ length (drop (getD bytes 0 0) bytes) = shrinks carrier k (place + 1) (drop (getD bytes 0 0) bytes) rest (ok-after (message-at carrier place bytes) (behind-messages carrier k (place + 1) (drop (getD bytes 0 0) bytes)) rest h) in
     omega (arith, length-drop (getD bytes 0 0) bytes)
 
 mapped-ok : {X Y E : Type 0} (f : X → Y) (r : Result X E) (y : Y) → mapped f (λ e. e) r ≡ Ok y → (x : X) × (r ≡ Ok x) × (f x ≡ y)
@@ -126,7 +125,7 @@ module _ (carrier : Carrier) (unit : ℕ) (b : List ℕ) (start s : Standing) (h
       let r : Ok h ≡ header-at b = rw o at p in
       let n : getD b 2 0 - 0 ≡ h .count = omega (arith, ap (λ x. x .count) (opened .1)) in
       let left : left-behind s ≡ mapped length (λ e. e) (behind-messages carrier (h .count) 0 (drop 8 b)) =
-          ap left-behind (opened .0) ∙ ap (λ k. mapped length (λ e. e) (behind-messages carrier k 0 (drop 8 b))) n in
+      ap left-behind (opened .0) ∙ ap (λ k. mapped length (λ e. e) (behind-messages carrier k 0 (drop 8 b))) n in
       on-ok (header-at b) h _ r ∙ on-ok (header-rules carrier unit (length b) h) g _ q
       ∙ ap (λ l. and-then l (λ left. nothing-left (length b) h left)) (sym left)
 

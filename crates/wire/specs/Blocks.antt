@@ -7,13 +7,12 @@ use lib.ListN.{getD, length, drop}
 use Rattle.std.specs.declared.result.Result.{Result}
 use Rattle.std.specs.declared.result.Result.the-variants.{Ok, Err}
 use Rattle.std.specs.Results.{mapped}
-use Rattle.wire_messages.specs.Forms.{decoded}
 use Rattle.wire_types.specs.Refusals.{Refusal, refusal, and-then}
 use Rattle.wire_types.specs.declared.fault.Layer.the-variants as the-layer
 use Rattle.wire_types.specs.declared.header.Carrier.{Carrier}
 use Rattle.wire_types.specs.declared.header.Carrier.the-variants.{Datagram, Spin}
 use Rattle.wire_types.specs.declared.header.Header.{Header}
-use Rattle.wire.specs.Reading.{Standing, header-at, placed}
+use Rattle.wire.specs.Reading.{Standing, header-at, message-at}
 
 -- Hdr Unit is the unit asked for, or Hdr Unit and Hdr Sequence are 0
 abbrev pub for-unit : ℕ → Header → Bool
@@ -38,7 +37,7 @@ header-rules carrier unit bytes h =
 unfoldable pub behind-messages : Carrier → ℕ → ℕ → List ℕ → Result (List ℕ) Refusal
 behind-messages carrier zero place bytes = Ok bytes
 behind-messages carrier (suc k) place bytes =
-    and-then (mapped (λ x. x) (placed place) (decoded carrier bytes)) (λ _. behind-messages carrier k (place + 1) (drop (getD bytes 0 0) bytes))
+    and-then (message-at carrier place bytes) (λ _. behind-messages carrier k (place + 1) (drop (getD bytes 0 0) bytes))
 
 -- how many bytes a reader leaves behind the messages of its block
 abbrev pub left-behind : Standing → Result ℕ Refusal

@@ -65,9 +65,13 @@ header-step s = header-at (s .ahead)
 abbrev pub after-header : Standing → Standing
 after-header s = cond (ltb (length (s .ahead)) 8) s (behind-header s)
 
+-- the message at a place, in front of the bytes
+abbrev pub message-at : Carrier → ℕ → List ℕ → Result Record Refusal
+message-at carrier place bytes = mapped (λ x. x) (placed place) (decoded carrier bytes)
+
 -- the message that stands ahead
 abbrev pub message-ahead : Standing → Result Record Refusal
-message-ahead s = mapped (λ x. x) (placed (s .place)) (decoded (s .carrier) (s .ahead))
+message-ahead s = message-at (s .carrier) (s .place) (s .ahead)
 
 -- a step over a message: the next one, or none behind the last
 abbrev pub message-step : Standing → Result (Option Record) Refusal

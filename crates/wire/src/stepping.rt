@@ -1,9 +1,11 @@
 // The steps of a reader.
 ghost use Prim.Native.Nat.{_+_, _≤_};
 ghost use Rattle.std.specs.Options.{mapped};
+ghost use Rattle.std.specs.Results.{Cases};
+ghost use Rattle.wire_messages.specs.Rules.{Framed};
 ghost use Rattle.wire_types.specs.Records.{meaning};
 ghost use Rattle.wire_types.specs.Refusals.{answers, breach-of, refusal-of};
-ghost use Rattle.wire.specs.Reading.{standing, at-start, header-at, header-of, header-step, after-header, message-ahead, message-step, after-message, placed};
+ghost use Rattle.wire.specs.Reading.{standing, at-start, header-at, header-of, header-step, after-header, message-at, message-step, after-message, placed};
 ghost use lib.ListN.{length};
 ghost use mathlib.Core.Path.{_≡_};
 use crate::reader::Reader;
@@ -37,7 +39,8 @@ pub fn read_header(bytes: &[u8]) -> Result<Header, Fault>
     })
 }
 
-fn at_place(flaw: Flaw, place: u8) -> Fault
+/// A message's flaw as a fault of its block: refusals 8 and 9 are the message's, 10 and 11 a field's.
+fn fault_at(place: u8, flaw: Flaw) -> Fault
     ensures { λ r. ⌜ refusal-of r ≡ placed place (breach-of flaw) ⌝ }
 {
     let layer = if flaw.why.number() < 10 {
@@ -49,6 +52,17 @@ fn at_place(flaw: Flaw, place: u8) -> Fault
         why: flaw.why,
         layer,
         byte: flaw.byte,
+    }
+}
+
+/// The message that stands at a place in front of the bytes.
+fn decode_at<'a>(carrier: Carrier, place: u8, bytes: &'a [u8]) -> Result<Message<'a>, Fault>
+    ensures value { λ r. ⌜ answers meaning r ≡ message-at carrier place (now (bytes .entry)) ⌝ }
+    ensures framed { λ r. ⌜ Cases r (λ _. Framed (now (bytes .entry))) (λ _. Unit {0}) ⌝ }
+{
+    match decode(carrier, bytes) {
+        Ok(message) => Ok(message),
+        Err(flaw) => Err(fault_at(place, flaw)),
     }
 }
 
@@ -93,15 +107,11 @@ impl<'a> Reader<'a> {
         if self.place >= self.count {
             return Ok(None);
         }
-        match decode(self.carrier, self.ahead) {
-            Ok(message) => {
-                let length = self.ahead[0] as usize;
-                let (_, behind) = self.ahead.split_at(length);
-                self.ahead = behind;
-                self.place += 1;
-                Ok(Some(message))
-            }
-            Err(flaw) => Err(at_place(flaw, self.place)),
-        }
+        let message = decode_at(self.carrier, self.place, self.ahead)?;
+        let length = self.ahead[0] as usize;
+        let (_, behind) = self.ahead.split_at(length);
+        self.ahead = behind;
+        self.place += 1;
+        Ok(Some(message))
     }
 }

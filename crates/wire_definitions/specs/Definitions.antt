@@ -53,7 +53,7 @@ variance-at m at =
       «discount_factor» = signed 8 (le 8 m (at + 20));
       «initial_strike» = long-price m (at + 28);
       «previous_armvm» = signed 8 (le 8 m (at + 36));
-      «fed_funds_rate» = signed 8 (le 8 m (at + 44))
+      «fed_funds_rate» = signed 8 (le 8 m (at + 44));
     }
 
 -- what an instrument is made of that keeps the rule
@@ -84,5 +84,5 @@ definition-at m =
       listing = l;
       increment = long-price m 30;
       contract-date = le 4 m 41;
-      structure = x
+      structure = x;
     }))))))

@@ -15,7 +15,7 @@ use wire_types::Leg;
 use wire_types::Legs;
 
 /// The `count` legs from `at` on; or the first byte of their symbols that no symbol may hold.
-pub fn read_legs<'a>(m: &'a [u8], count: u8, at: usize) -> Result<Legs<'a>, Flaw>
+pub(crate) fn read_legs<'a>(m: &'a [u8], count: u8, at: usize) -> Result<Legs<'a>, Flaw>
     requires { ⌜ at + 10 * count ≤ length (now m) ⌝ }
     ensures { λ r. ⌜ reads legs-meaning r ≡ legs-at (now (m .entry)) count at ⌝ }
 {

@@ -18,7 +18,7 @@ use wire_types::Why;
 const BEHIND: u8 = 45;
 
 /// What the instrument is made of, by the rule for legs and variance.
-pub fn read_structure<'a>(m: &'a [u8]) -> Result<Structure<'a>, Flaw>
+pub(crate) fn read_structure<'a>(m: &'a [u8]) -> Result<Structure<'a>, Flaw>
     requires { ⌜ 45 ≤ length (now m) ⌝ }
     ensures { λ r. ⌜ reads makeup r ≡ makeup-at (now (m .entry)) ⌝ }
 {

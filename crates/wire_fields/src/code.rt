@@ -12,7 +12,6 @@ use wire_types::Side;
 use wire_types::Status;
 use wire_types::Why;
 
-
 pub fn read_side(m: &[u8], at: usize) -> Result<Side, Flaw>
     requires { ⌜ at < length (now m) ⌝ }
     ensures { λ r. ⌜ reads (λ x. x) r ≡ code-at side-of (now (m .entry)) at ⌝ }

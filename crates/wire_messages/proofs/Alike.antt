@@ -80,7 +80,7 @@ module _ (s : ℕ) (m w : List ℕ) (a : Alike s m w) where
       let k = a .wide in
       ext-getD 0 _ _ (simp (length-take, length-drop) (omega arith))
       (λ i q. let lt : i < n = omega (arith, q, length-take n (drop at w)) in
-          simp (getD-take, getD-drop) (a .same (at + i) (omega arith) (omega arith)))
+      simp (getD-take, getD-drop) (a .same (at + i) (omega arith) (omega arith)))
 
   symbol-alike : (at : ℕ) → 0 < at → at + 6 ≤ s → symbol-at w at ≡ symbol-at m at
   symbol-alike at p h = let b = bad-alike 6 at p h in let t = part-alike 6 at p h in rw (b, t) refl

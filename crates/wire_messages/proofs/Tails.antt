@@ -156,7 +156,7 @@ module _ (bytes : List ℕ) (s n : ℕ) (tail : List ℕ) (two : 2 ≤ s) (have 
       record {
         long = l;
         wide = omega arith;
-        same = λ i p q. getD-take (getD (with-tail s bytes n tail) 0 0) (with-tail s bytes n tail) i 0 (omega arith) ∙ byte-tailed i p q ∙ sym (same i q)
+        same = λ i p q. getD-take (getD (with-tail s bytes n tail) 0 0) (with-tail s bytes n tail) i 0 (omega arith) ∙ byte-tailed i p q ∙ sym (same i q);
       }
 
   read-tailed : (carrier : Carrier) (k : Kind) (m : List ℕ) → front-kind carrier bytes ≡ k → least k ≤ s → kind-at k (front (with-tail s bytes n tail)) ≡ kind-at k m → decoded carrier (with-tail s bytes n tail) ≡ kind-at k m
@@ -174,7 +174,7 @@ tail-ignored carrier bytes x f sound h n tail lo hi =
     let sp = span-within (front-kind carrier bytes) (front bytes) two sound in
     let have : span (front-kind carrier bytes) (front bytes) ≤ length bytes = omega (arith, sp .2, f .1) in
     let a = alike-tailed bytes (span (front-kind carrier bytes) (front bytes)) n tail (sp .0) have lo hi (front bytes) (sp .2)
-            (λ i q. getD-take (getD bytes 0 0) bytes i 0 (omega (arith, sp .2))) in
+    (λ i q. getD-take (getD bytes 0 0) bytes i 0 (omega (arith, sp .2))) in
     read-tailed bytes (span (front-kind carrier bytes) (front bytes)) n tail (sp .0) have lo hi carrier (front-kind carrier bytes) (front bytes) refl (sp .1)
     (kind-alike (front-kind carrier bytes) (front bytes) (front (with-tail (span (front-kind carrier bytes) (front bytes)) bytes n tail)) two sound a)
     ∙ sym (long-form (front-kind carrier bytes) (front bytes) (sound .long)) ∙ sym (framed-form carrier bytes f) ∙ h

@@ -45,9 +45,12 @@ Found k m at b = (at ≤ b) × (b < at + k) × (printable (getD m b 0) ≡ false
 found-behind : (k : ℕ) (m : List ℕ) (at b : ℕ) → printable (getD m at 0) ≡ true → Found k m (at + 1) b → Found (suc k) m at b
 found-behind k m at b e r =
     let lo = r .0 in
-    let hi = r .1 in
-    (omega arith, omega arith, r .2,
-    λ c p q. ⊎-elim (λ h. r .3 c (omega arith) q) (λ h. let same : at ≡ c = omega arith in rw same at e) (order at c))
+    let hi = r .1 in (
+      omega arith,
+      omega arith,
+      r .2,
+      λ c p q. ⊎-elim (λ h. r .3 c (omega arith) q) (λ h. let same : at ≡ c = omega arith in rw same at e) (order at c),
+    )
 
 found-here : (k : ℕ) (m : List ℕ) (at b : ℕ) → printable (getD m at 0) ≡ false → Some at ≡ Some b → Found (suc k) m at b
 found-here k m at b e h =

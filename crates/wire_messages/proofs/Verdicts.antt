@@ -56,9 +56,10 @@ judge-fixed t m (Ok x) long h =
 judge-fixed t m (Err e) long h =
     let s = somewhere _ e (sym h) in
     let low = first-fail-some 0 (fixed-tests t) (table-length t) (take (table-length t) m) (s .0) (fixed-ordered t) (s .1) in
-    not-listed (s .0) long
-    (outside-whole 0 (fixed-tests t) (table-length t) m (s .0) (fixed-ordered t) (low .0),
-    λ c q o. low .1 c q (outside-front 0 (fixed-tests t) (table-length t) m c (fixed-ordered t) o))
+    not-listed (s .0) long (
+      outside-whole 0 (fixed-tests t) (table-length t) m (s .0) (fixed-ordered t) (low .0),
+      λ c q o. low .1 c q (outside-front 0 (fixed-tests t) (table-length t) m c (fixed-ordered t) o),
+    )
     (s .2)
 
 judge-legs : (m : List ℕ) (r : Result Record Breach) → 45 ≤ length m → Within (tests the-kind.Definition) m → keeps-leg-rule m ≡ true → errPart r ≡ at-byte (first-fail (leg-symbols (leg-count m) 45) m) → Judged the-kind.Definition m r

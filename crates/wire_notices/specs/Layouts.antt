@@ -23,7 +23,7 @@ time-reference-at m =
       midnight = le 4 m 2;
       seconds = le 4 m 6;
       «time_offset» = le 4 m 10;
-      «trade_date» = le 4 m 14
+      «trade_date» = le 4 m 14;
     }))
 
 -- 0x97 Unit Clear
@@ -51,7 +51,7 @@ settlement-at m =
       symbol = s;
       trade-date = le 4 m 12;
       price = long-price m 16;
-      issue = i
+      issue = i;
     }))))
 
 -- 0xBE Price Limits
@@ -76,7 +76,7 @@ end-of-day-summary-at m =
       volume = le 4 m 52;
       block-volume = le 4 m 56;
       ecrp-volume = le 4 m 60;
-      flags = getD m 64 0
+      flags = getD m 64 0;
     })))
 
 -- 0xD3 Open Interest

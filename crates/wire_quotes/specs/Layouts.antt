@@ -25,7 +25,7 @@ snapshot-short-at m =
       ask = short-quote m 20;
       last = record { price = short-price m 24; size = le 2 m 26; condition = c };
       volume = le 4 m 29;
-      status = t
+      status = t;
     })))))
 
 -- 0xB3 Market Snapshot (long)
@@ -42,7 +42,7 @@ snapshot-long-at m =
       ask = long-quote m 28;
       last = record { price = long-price m 40; size = le 4 m 48; condition = c };
       volume = le 4 m 53;
-      status = t
+      status = t;
     })))))
 
 -- 0xB4 Single Side Update (short)
@@ -83,5 +83,5 @@ top-trade-at m =
       price = long-price m 16;
       execution-id = le 8 m 24;
       volume = le 4 m 32;
-      condition = c
+      condition = c;
     }))))

@@ -1,1 +1,4 @@
+pub mod Decimals
+pub mod Lines
 pub mod Names
+pub mod Reports

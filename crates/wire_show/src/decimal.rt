@@ -1,5 +1,8 @@
 // Numbers with decimal places.
 ghost use Prim.Native.Nat.{_≤_, _<_, _^_};
+ghost use Rattle.std.specs.Written.{Prints};
+ghost use Rattle.std.specs.declared.option.Option.the-variants.{Some};
+ghost use Rattle.wire_show.specs.Decimals.{decimal-words, last-digits, pointed};
 ghost use mathlib.Core.Path.{_≡_};
 use std::fmt;
 
@@ -12,32 +15,47 @@ pub struct Decimal {
 }
 
 /// A price, in ten-thousandths.
-pub fn price(value: i64) -> Decimal {
+pub fn price(value: i64) -> Decimal
+    ensures same { λ r. ⌜ r .value ≡ value ⌝ }
+    ensures four { λ r. ⌜ r .places ≡ 4 ⌝ }
+{
     Decimal { value, places: 4 }
 }
 
 pub impl fmt::Display for Decimal as DecimalDisplay {
+    ghost shown = { λ x. Some (decimal-words (x .places) (x .value)) };
+
     fn fmt<W: fmt::Write>(&self, f: &mut fmt::Formatter<W>) -> fmt::Result {
         let size = self.value.unsigned_abs();
-        let one = power_of_ten(self.places);
-        if self.value < 0 {
-            f.write_char('-')?;
+        if self.value >= 0 {
+            return write_pointed(f, size, self.places);
         }
-        let whole = size / one;
-        write!(f, "{whole}.")?;
-        write_places(f, size, self.places)
+        f.write_str("-")?;
+        write_pointed(f, size, self.places)
     }
+}
+
+/// A number of units of the last of `places` places.
+fn write_pointed<W: fmt::Write>(f: &mut fmt::Formatter<W>, number: u64, places: u32) -> fmt::Result
+    requires { ⌜ places ≤ 19 ⌝ }
+    ensures { λ r. ⌜ Prints took (now (f .entry)) r (pointed places number) (now (f .exit)) ⌝ }
+{
+    let whole = number / power_of_ten(places);
+    write!(f, "{whole}.")?;
+    write_places(f, number, places)
 }
 
 /// The last `places` digits of a number, zeros in front included.
 fn write_places<W: fmt::Write>(f: &mut fmt::Formatter<W>, number: u64, places: u32) -> fmt::Result
     requires { ⌜ places ≤ 19 ⌝ }
+    ensures { λ r. ⌜ Prints took (now (f .entry)) r (last-digits places number) (now (f .exit)) ⌝ }
 {
-    for place in (0..places).rev() {
-        let digit = number / power_of_ten(place) % 10;
-        write!(f, "{digit}")?;
+    if places == 0 {
+        return Ok(());
     }
-    Ok(())
+    let digit = number / power_of_ten(places - 1) % 10;
+    write!(f, "{digit}")?;
+    write_places(f, number, places - 1)
 }
 
 fn power_of_ten(places: u32) -> u64

@@ -1,4 +1,7 @@
 // A fault in words.
+ghost use Rattle.std.specs.declared.option.Option.the-variants.{Some};
+ghost use Rattle.wire_show.specs.Lines.{told};
+ghost use Rattle.wire_types.specs.Refusals.{refusal-of};
 use std::fmt;
 use wire_types::Fault;
 use wire_types::Layer;
@@ -8,6 +11,8 @@ use wire_types::Layer;
 pub struct ShownFault(pub Fault);
 
 pub impl fmt::Display for ShownFault as ShownFaultDisplay {
+    ghost shown = { λ x. Some (told (refusal-of (x .0))) };
+
     fn fmt<W: fmt::Write>(&self, f: &mut fmt::Formatter<W>) -> fmt::Result {
         let number = self.0.why.number();
         let byte = self.0.byte;

@@ -1,4 +1,6 @@
 // What several messages have in common: symbols, quotes and bytes.
+ghost use Rattle.std.specs.declared.option.Option.the-variants.{Some};
+ghost use Rattle.wire_show.specs.Decimals.{quote-words};
 use crate::decimal::DecimalDisplay;
 use crate::decimal::price;
 use std::fmt;
@@ -28,6 +30,8 @@ pub impl fmt::Display for Symbol<'_> as SymbolDisplay {
 pub struct ShownQuote(pub Quote);
 
 pub impl fmt::Display for ShownQuote as ShownQuoteDisplay {
+    ghost shown = { λ x. Some (quote-words (x .0)) };
+
     fn fmt<W: fmt::Write>(&self, f: &mut fmt::Formatter<W>) -> fmt::Result {
         let Quote {
             price: value,

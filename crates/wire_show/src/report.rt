@@ -1,5 +1,14 @@
 // What is to be said of a block.
+ghost use Rattle.std.specs.Of.String.{string-bytes};
+ghost use Rattle.std.specs.Options.{valueOr};
+ghost use Rattle.std.specs.Vec.{made};
+ghost use Rattle.wire.specs.Blocks.{checked};
+ghost use Rattle.wire_show.specs.Lines.{header-words};
+ghost use Rattle.wire_show.specs.Reports.{Accepts, Refuses, Reports};
+ghost use Rattle.wire_types.specs.Refusals.{answers, refusal-of};
+ghost use lib.Chars.{codes};
 ghost use lib.ListN.{getD};
+ghost use mathlib.Core.List.{_++_};
 ghost use mathlib.Core.Path.{_≡_};
 use crate::fault::ShownFault;
 use crate::fault::ShownFaultDisplay;
@@ -29,15 +38,22 @@ pub fn describe(
     carrier: Carrier,
     unit: Option<u8>,
     block: &[u8],
-) -> Result<Report, AllocError> {
+) -> Result<Report, AllocError>
+    ensures { λ r. ⌜ made r (λ p. Reports (checked carrier (valueOr unit (getD (now (block .entry)) 3 0)) (now (block .entry))) p) ⌝ }
+{
     let unit = unit.unwrap_or(own_unit(block));
-    let checked = match carrier {
-        Carrier::Datagram => wire::check_datagram(unit, block),
-        Carrier::Spin => wire::check_spin_block(unit, block),
-    };
-    match checked {
+    match check(carrier, unit, block) {
         Ok(header) => accepted(heap, carrier, header, block),
         Err(fault) => refused(heap, fault),
+    }
+}
+
+fn check(carrier: Carrier, unit: u8, block: &[u8]) -> Result<Header, Fault>
+    ensures { λ r. ⌜ answers (λ h. h) r ≡ checked carrier unit (now (block .entry)) ⌝ }
+{
+    match carrier {
+        Carrier::Datagram => wire::check_datagram(unit, block),
+        Carrier::Spin => wire::check_spin_block(unit, block),
     }
 }
 
@@ -58,7 +74,9 @@ fn own_unit(block: &[u8]) -> u8
     if block.len() > 3 { block[3] } else { 0 }
 }
 
-fn refused(heap: Global, fault: Fault) -> Result<Report, AllocError> {
+fn refused(heap: Global, fault: Fault) -> Result<Report, AllocError>
+    ensures { λ r. ⌜ made r (λ p. Refuses (refusal-of fault) p) ⌝ }
+{
     Ok(Report {
         text: format!(heap, "{}\n", ShownFault(fault))?,
         messages: 0,
@@ -66,37 +84,35 @@ fn refused(heap: Global, fault: Fault) -> Result<Report, AllocError> {
     })
 }
 
+/// Says what a block holds that was accepted with its header, so that each of its messages can be read.
 fn accepted(
     heap: Global,
     carrier: Carrier,
     header: Header,
     block: &[u8],
-) -> Result<Report, AllocError> {
-    let mut reader = Reader::new(carrier, block);
-    if let Err(fault) = reader.header() {
-        return refused(heap, fault);
-    }
+) -> Result<Report, AllocError>
+    ensures { λ r. ⌜ made r (λ p. Accepts header p) ⌝ }
+{
     let mut text = header_line(heap, header)?;
-    let mut messages = 0;
+    let mut reader = Reader::new(carrier, block);
+    let _ = reader.header();
     for place in 0..header.count {
-        match reader.message() {
-            Ok(Some(message)) => {
-                let line = message_line(heap, header.sequence, place, message)?;
-                text.push_str(line.as_str())?;
-            }
-            Ok(None) => break,
-            Err(fault) => return refused(heap, fault),
-        }
-        messages = usize::from(place) + 1;
+        let Ok(Some(message)) = reader.message() else {
+            break;
+        };
+        let line = message_line(heap, header.sequence, place, message)?;
+        text.push_str(line.as_str())?;
     }
     Ok(Report {
         text,
-        messages,
+        messages: usize::from(header.count),
         accepted: true,
     })
 }
 
-fn header_line(heap: Global, header: Header) -> Result<String, AllocError> {
+fn header_line(heap: Global, header: Header) -> Result<String, AllocError>
+    ensures { λ r. ⌜ made r (λ s. string-bytes s ≡ header-words header ++ codes "\n") ⌝ }
+{
     let Header {
         length,
         count,

@@ -167,7 +167,7 @@ status-meaning x =
     record {
       time-offset = x .«time_offset»;
       symbol = now (x .symbol);
-      status = x .status
+      status = x .status;
     }
 
 abbrev pub snapshot-meaning : Snapshot → SnapshotRecord
@@ -180,7 +180,7 @@ snapshot-meaning x =
       ask = x .ask;
       last = x .last;
       volume = x .volume;
-      status = x .status
+      status = x .status;
     }
 
 abbrev pub single-side-meaning : SingleSideUpdate → SingleSideRecord
@@ -189,7 +189,7 @@ single-side-meaning x =
       time-offset = x .«time_offset»;
       symbol = now (x .symbol);
       side = x .side;
-      quote = x .quote
+      quote = x .quote;
     }
 
 abbrev pub two-side-meaning : TwoSideUpdate → TwoSideRecord
@@ -198,7 +198,7 @@ two-side-meaning x =
       time-offset = x .«time_offset»;
       symbol = now (x .symbol);
       bid = x .bid;
-      ask = x .ask
+      ask = x .ask;
     }
 
 abbrev pub trade-meaning : TopTrade → TradeRecord
@@ -210,7 +210,7 @@ trade-meaning x =
       price = x .price;
       execution-id = x .«execution_id»;
       volume = x .volume;
-      condition = x .condition
+      condition = x .condition;
     }
 
 abbrev pub settlement-meaning : Settlement → SettlementRecord
@@ -220,7 +220,7 @@ settlement-meaning x =
       symbol = now (x .symbol);
       trade-date = x .«trade_date»;
       price = x .price;
-      issue = x .issue
+      issue = x .issue;
     }
 
 abbrev pub definition-meaning : Definition → DefinitionRecord
@@ -236,7 +236,7 @@ definition-meaning x =
       listing = x .listing;
       increment = x .increment;
       contract-date = x .«contract_date»;
-      structure = makeup (x .structure)
+      structure = makeup (x .structure);
     }
 
 abbrev pub limits-meaning : PriceLimits → LimitsRecord
@@ -245,7 +245,7 @@ limits-meaning x =
       time-offset = x .«time_offset»;
       symbol = now (x .symbol);
       upper = x .upper;
-      lower = x .lower
+      lower = x .lower;
     }
 
 abbrev pub summary-meaning : EndOfDaySummary → SummaryRecord
@@ -262,7 +262,7 @@ summary-meaning x =
       volume = x .volume;
       block-volume = x .«block_volume»;
       ecrp-volume = x .«ecrp_volume»;
-      flags = x .flags
+      flags = x .flags;
     }
 
 abbrev pub interest-meaning : OpenInterest → InterestRecord
@@ -271,7 +271,7 @@ interest-meaning x =
       time-offset = x .«time_offset»;
       symbol = now (x .symbol);
       trade-date = x .«trade_date»;
-      open-interest = x .«open_interest»
+      open-interest = x .«open_interest»;
     }
 
 -- the meaning of a decoded message

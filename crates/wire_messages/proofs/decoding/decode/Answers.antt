@@ -5,5 +5,5 @@ pub returns : need.returns
 returns c =
     record {
       value = c .read-front .ensures;
-      law = told-cases (c .args .carrier) (c .args .bytes .now) (c .read-front .result) (c .read-front .ensures)
+      law = told-cases (c .args .carrier) (c .args .bytes .now) (c .read-front .result) (c .read-front .ensures);
     }
