@@ -7,10 +7,10 @@ use recording::parse_line;
 use std::alloc::AllocError;
 use std::alloc::Global;
 use std::fmt;
-use wire_show::carrier_name;
-use wire_show::describe;
-use wire_show::push_indented;
+use wire_report::describe;
+use wire_report::push_indented;
 use wire_types::Carrier;
+use wire_words::carrier_name;
 
 /// The text that has been said and not been printed, and what there was so far.
 #[derive(Drop)]

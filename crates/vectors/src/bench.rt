@@ -12,8 +12,8 @@ use recording::parse_line;
 use std::alloc::AllocError;
 use std::alloc::Global;
 use std::fmt;
-use wire_show::describe;
-use wire_show::push_indented;
+use wire_report::describe;
+use wire_report::push_indented;
 use wire_types::Carrier;
 
 /// A block under trial: its line, what is said of it, and what is expected so far.

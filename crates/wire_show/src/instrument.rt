@@ -1,10 +1,4 @@
 // Futures Instrument Definition in words.
-use crate::decimal::Decimal;
-use crate::decimal::DecimalDisplay;
-use crate::decimal::price;
-use crate::name::listing_name;
-use crate::part::Symbol;
-use crate::part::SymbolDisplay;
 use std::fmt;
 use wire_definitions::leg_count;
 use wire_definitions::read_leg;
@@ -12,8 +6,17 @@ use wire_types::Definition;
 use wire_types::Legs;
 use wire_types::Structure;
 use wire_types::Variance;
+use wire_words::Decimal;
+use wire_words::DecimalDisplay;
+use wire_words::Symbol;
+use wire_words::SymbolDisplay;
+use wire_words::listing_name;
+use wire_words::price;
 
-pub fn show_definition<W: fmt::Write>(m: Definition<'_>, f: &mut fmt::Formatter<W>) -> fmt::Result {
+pub(crate) fn show_definition<W: fmt::Write>(
+    m: Definition<'_>,
+    f: &mut fmt::Formatter<W>,
+) -> fmt::Result {
     write!(
         f,
         "Futures Instrument Definition, time offset {}, symbol {}, unit timestamp {}, report symbol {}",

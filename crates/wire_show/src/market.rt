@@ -1,14 +1,4 @@
 // Quotes, trades and what else tells of one symbol's market, in words.
-use crate::decimal::DecimalDisplay;
-use crate::decimal::price;
-use crate::name::condition_name;
-use crate::name::issue_name;
-use crate::name::side_name;
-use crate::name::status_name;
-use crate::part::ShownQuote;
-use crate::part::ShownQuoteDisplay;
-use crate::part::Symbol;
-use crate::part::SymbolDisplay;
 use std::fmt;
 use wire_types::LastTrade;
 use wire_types::PriceLimits;
@@ -18,8 +8,21 @@ use wire_types::Snapshot;
 use wire_types::TopTrade;
 use wire_types::TradingStatus;
 use wire_types::TwoSideUpdate;
+use wire_words::DecimalDisplay;
+use wire_words::ShownQuote;
+use wire_words::ShownQuoteDisplay;
+use wire_words::Symbol;
+use wire_words::SymbolDisplay;
+use wire_words::condition_name;
+use wire_words::issue_name;
+use wire_words::price;
+use wire_words::side_name;
+use wire_words::status_name;
 
-pub fn show_status<W: fmt::Write>(m: TradingStatus<'_>, f: &mut fmt::Formatter<W>) -> fmt::Result {
+pub(crate) fn show_status<W: fmt::Write>(
+    m: TradingStatus<'_>,
+    f: &mut fmt::Formatter<W>,
+) -> fmt::Result {
     write!(
         f,
         "Trading Status, time offset {}, symbol {}, status {}",
@@ -29,7 +32,10 @@ pub fn show_status<W: fmt::Write>(m: TradingStatus<'_>, f: &mut fmt::Formatter<W
     )
 }
 
-pub fn show_snapshot<W: fmt::Write>(m: Snapshot<'_>, f: &mut fmt::Formatter<W>) -> fmt::Result {
+pub(crate) fn show_snapshot<W: fmt::Write>(
+    m: Snapshot<'_>,
+    f: &mut fmt::Formatter<W>,
+) -> fmt::Result {
     write!(
         f,
         "Market Snapshot, time offset {}, symbol {}, unit timestamp {}, bid {}, ask {}",
@@ -56,7 +62,7 @@ fn show_last_trade<W: fmt::Write>(last: LastTrade, f: &mut fmt::Formatter<W>) ->
     )
 }
 
-pub fn show_single_side<W: fmt::Write>(
+pub(crate) fn show_single_side<W: fmt::Write>(
     m: SingleSideUpdate<'_>,
     f: &mut fmt::Formatter<W>,
 ) -> fmt::Result {
@@ -70,7 +76,7 @@ pub fn show_single_side<W: fmt::Write>(
     )
 }
 
-pub fn show_two_side<W: fmt::Write>(
+pub(crate) fn show_two_side<W: fmt::Write>(
     m: TwoSideUpdate<'_>,
     f: &mut fmt::Formatter<W>,
 ) -> fmt::Result {
@@ -84,7 +90,7 @@ pub fn show_two_side<W: fmt::Write>(
     )
 }
 
-pub fn show_trade<W: fmt::Write>(m: TopTrade<'_>, f: &mut fmt::Formatter<W>) -> fmt::Result {
+pub(crate) fn show_trade<W: fmt::Write>(m: TopTrade<'_>, f: &mut fmt::Formatter<W>) -> fmt::Result {
     write!(
         f,
         "TOP Trade, time offset {}, symbol {}, quantity {}, price {}, execution id {}, volume {}, condition {}",
@@ -98,7 +104,10 @@ pub fn show_trade<W: fmt::Write>(m: TopTrade<'_>, f: &mut fmt::Formatter<W>) -> 
     )
 }
 
-pub fn show_settlement<W: fmt::Write>(m: Settlement<'_>, f: &mut fmt::Formatter<W>) -> fmt::Result {
+pub(crate) fn show_settlement<W: fmt::Write>(
+    m: Settlement<'_>,
+    f: &mut fmt::Formatter<W>,
+) -> fmt::Result {
     write!(
         f,
         "Settlement, time offset {}, symbol {}, trade date {}, price {}, issue {}",
@@ -110,7 +119,10 @@ pub fn show_settlement<W: fmt::Write>(m: Settlement<'_>, f: &mut fmt::Formatter<
     )
 }
 
-pub fn show_limits<W: fmt::Write>(m: PriceLimits<'_>, f: &mut fmt::Formatter<W>) -> fmt::Result {
+pub(crate) fn show_limits<W: fmt::Write>(
+    m: PriceLimits<'_>,
+    f: &mut fmt::Formatter<W>,
+) -> fmt::Result {
     write!(
         f,
         "Price Limits, time offset {}, symbol {}, upper {}, lower {}",

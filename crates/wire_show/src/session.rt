@@ -1,22 +1,25 @@
 // Times, the day's figures and spins, in words.
-use crate::decimal::DecimalDisplay;
-use crate::decimal::price;
-use crate::part::Letter;
-use crate::part::LetterDisplay;
-use crate::part::Symbol;
-use crate::part::SymbolDisplay;
 use std::fmt;
 use wire_types::EndOfDaySummary;
 use wire_types::OpenInterest;
 use wire_types::SpinResponse;
 use wire_types::Time;
 use wire_types::TimeReference;
+use wire_words::DecimalDisplay;
+use wire_words::Letter;
+use wire_words::LetterDisplay;
+use wire_words::Symbol;
+use wire_words::SymbolDisplay;
+use wire_words::price;
 
-pub fn show_time<W: fmt::Write>(m: Time, f: &mut fmt::Formatter<W>) -> fmt::Result {
+pub(crate) fn show_time<W: fmt::Write>(m: Time, f: &mut fmt::Formatter<W>) -> fmt::Result {
     write!(f, "Time, seconds {}, epoch {}", m.seconds, m.epoch)
 }
 
-pub fn show_reference<W: fmt::Write>(m: TimeReference, f: &mut fmt::Formatter<W>) -> fmt::Result {
+pub(crate) fn show_reference<W: fmt::Write>(
+    m: TimeReference,
+    f: &mut fmt::Formatter<W>,
+) -> fmt::Result {
     write!(
         f,
         "Time Reference, midnight {}, seconds {}, time offset {}, trade date {}",
@@ -24,7 +27,7 @@ pub fn show_reference<W: fmt::Write>(m: TimeReference, f: &mut fmt::Formatter<W>
     )
 }
 
-pub fn show_summary<W: fmt::Write>(
+pub(crate) fn show_summary<W: fmt::Write>(
     m: EndOfDaySummary<'_>,
     f: &mut fmt::Formatter<W>,
 ) -> fmt::Result {
@@ -51,7 +54,10 @@ pub fn show_summary<W: fmt::Write>(
     )
 }
 
-pub fn show_interest<W: fmt::Write>(m: OpenInterest<'_>, f: &mut fmt::Formatter<W>) -> fmt::Result {
+pub(crate) fn show_interest<W: fmt::Write>(
+    m: OpenInterest<'_>,
+    f: &mut fmt::Formatter<W>,
+) -> fmt::Result {
     write!(
         f,
         "Open Interest, time offset {}, symbol {}, trade date {}, open interest {}",
@@ -62,7 +68,7 @@ pub fn show_interest<W: fmt::Write>(m: OpenInterest<'_>, f: &mut fmt::Formatter<
     )
 }
 
-pub fn show_spin_response<W: fmt::Write>(
+pub(crate) fn show_spin_response<W: fmt::Write>(
     m: SpinResponse,
     f: &mut fmt::Formatter<W>,
 ) -> fmt::Result {

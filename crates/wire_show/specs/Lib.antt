@@ -1,4 +1,0 @@
-pub mod Decimals
-pub mod Lines
-pub mod Names
-pub mod Reports
