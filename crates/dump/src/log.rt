@@ -2,15 +2,14 @@
 use recording::BadLine;
 use recording::BadLineDisplay;
 use recording::Line;
-use recording::line_text;
 use recording::parse_line;
 use std::alloc::AllocError;
 use std::alloc::Global;
 use std::fmt;
+use wire_names::carrier_name;
 use wire_report::describe;
 use wire_report::push_indented;
 use wire_types::Carrier;
-use wire_words::carrier_name;
 
 /// The text that has been said and not been printed, and what there was so far.
 #[derive(Drop)]
@@ -73,7 +72,7 @@ impl Log {
 
     /// Says what a line of the recording holds. A line that says nothing is told and passed over.
     pub fn add_line(&mut self, number: u64, line: &[u8]) -> Result<(), AllocError> {
-        match parse(self.heap, line) {
+        match parse_line(self.heap, line) {
             Ok(Line::Blank) => Ok(()),
             Ok(Line::Unit(unit)) => {
                 self.unit = Some(unit);
@@ -107,8 +106,4 @@ impl Log {
         self.total.not_understood = self.total.not_understood.saturating_add(1);
         self.text.push_str(said.as_str())
     }
-}
-
-fn parse(heap: Global, line: &[u8]) -> Result<Line, BadLine> {
-    parse_line(heap, line_text(line)?)
 }

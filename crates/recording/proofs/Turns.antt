@@ -7,7 +7,8 @@ use native.Mathlib.Omega.{arith}
 use lib.ListN.{length}
 use Rattle.std.specs.declared.option.Option.{Option}
 use Rattle.std.specs.declared.option.Option.the-variants.{Some, None}
-use Rattle.recording.specs.Hex.{nibble-of, blank, pair-of, led, hex-bytes}
+use Rattle.recording.specs.Hex.{nibble-of, pair-of, led, hex-bytes}
+use Rattle.recording.specs.Text.{blank}
 
 -- the bytes that are there, in front of those to come, where these are known
 abbrev pub behind : List ℕ → Option (List ℕ) → Option (List ℕ)

@@ -1,9 +1,10 @@
--- Bytes written as pairs of hex digits, with blanks and tabs between the pairs. Assumes nothing.
+-- Bytes written as pairs of hex digits, with blanks between the pairs. Assumes nothing.
 use mathlib.Core.Path.{_≡_}
 use Prim.Native.Nat.{ℕ, _+_, _-_, _*_}
-use mathlib.Core.Bool.{Bool, true, cond}
+use mathlib.Core.Bool.{cond}
 use mathlib.Core.List.{List, [], _∷_, _++_}
-use lib.Dec.{eqb, ltb}
+use lib.Dec.{ltb}
+use Rattle.recording.specs.Text.{blank}
 use Rattle.std.specs.Of.Vec.{vec-items}
 use Rattle.std.specs.declared.option.Option.{Option}
 use Rattle.std.specs.declared.option.Option.the-variants.{Some, None}
@@ -23,9 +24,6 @@ nibble-of b =
     (cond (ltb b 0x61) None
     (cond (ltb b 0x67) (Some (b - 0x61 + 10))
     None)))))
-
-abbrev pub blank : ℕ → Bool
-blank b = cond (eqb b 0x20) true (eqb b 0x09)
 
 abbrev pub pair-of : Option ℕ → Option ℕ → Option ℕ
 pair-of None low = None

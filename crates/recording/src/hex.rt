@@ -1,10 +1,11 @@
 // Bytes written as pairs of hex digits.
-ghost use Rattle.recording.specs.Hex.{blank, nibble-of, pair-of, Decodes};
+ghost use Rattle.recording.specs.Hex.{nibble-of, pair-of, Decodes};
 ghost use Rattle.std.specs.Slices.{found};
 ghost use Prim.Native.Nat.{_<_};
 ghost use mathlib.Core.Path.{_≡_};
 use crate::line::BadLine;
 use crate::line::BadLineFromRefused;
+use crate::text::is_blank;
 use std::alloc::Global;
 
 /// The value of a hex digit of either case.
@@ -20,7 +21,7 @@ pub fn nibble(digit: u8) -> Option<u8>
     }
 }
 
-/// The bytes that a text writes, each as two digits that stand together, with blanks and tabs between them.
+/// The bytes that a text writes, each as two digits that stand together, with blanks between them.
 pub fn bytes_of_hex(heap: Global, text: &[u8]) -> Result<Vec<u8>, BadLine>
     ensures { λ r. ⌜ Decodes (now (text .entry)) r ⌝ }
 {
@@ -41,12 +42,6 @@ pub fn bytes_of_hex(heap: Global, text: &[u8]) -> Result<Vec<u8>, BadLine>
         rest = tail;
     }
     Ok(bytes)
-}
-
-fn is_blank(b: u8) -> bool
-    ensures { λ r. ⌜ r ≡ blank b ⌝ }
-{
-    b == b' ' || b == b'\t'
 }
 
 fn pair(high: u8, low: u8) -> Option<u8>

@@ -1,9 +1,15 @@
 // A line of a recording.
 ghost use Rattle.recording.specs.Faults.{fault-words};
+ghost use Rattle.recording.specs.Hex.{hex-bytes};
+ghost use Rattle.recording.specs.Lines.{Parsed, line-of, remark, unit-line, block-line};
+ghost use Rattle.recording.specs.Units.{unit-number};
 ghost use Rattle.recording.specs.declared.line.BadLine.the-variants.{Memory};
 ghost use Rattle.std.specs.declared.option.Option.the-variants.{Some};
 ghost use mathlib.Core.Path.{_≡_};
 use crate::hex::bytes_of_hex;
+use crate::text::behind_word;
+use crate::text::skip_blanks;
+use crate::unit::unit_number;
 use std::alloc::AllocError;
 use std::alloc::Global;
 use std::alloc::Refused;
@@ -56,44 +62,49 @@ pub impl fmt::Display for BadLine as BadLineDisplay {
     }
 }
 
-/// The text of a line as it was read, without its end. What is no text is no hex either.
-pub fn line_text(line: &[u8]) -> Result<&str, BadLine> {
-    match std::str::from_utf8(line) {
-        Ok(text) => Ok(text.trim_end_matches(['\r', '\n'])),
-        Err(_) => Err(BadLine::NoHex),
-    }
-}
-
-/// Reads a line. Blanks and tabs around it and between its words are of no account.
-pub fn parse_line(heap: Global, line: &str) -> Result<Line, BadLine> {
-    let line = line.trim_matches([' ', '\t']);
-    if line.is_empty() || line.starts_with('#') {
+/// Reads a line, its end included or not. Blanks around it and between its words are of no account.
+pub fn parse_line(heap: Global, line: &[u8]) -> Result<Line, BadLine>
+    ensures { λ r. ⌜ Parsed (line-of (now (line .entry))) r ⌝ }
+{
+    let text = skip_blanks(line);
+    if is_remark(text) {
         return Ok(Line::Blank);
     }
-    let (word, rest) = match line.find([' ', '\t']) {
-        Some(at) => line.split_at(at),
-        None => (line, ""),
-    };
-    match word {
-        "unit" => parse_unit(rest),
-        "spin" => block(heap, Carrier::Spin, rest),
-        "datagram" => block(heap, Carrier::Datagram, rest),
-        _ => block(heap, Carrier::Datagram, line),
+    if let Some(rest) = behind_word(b"unit", text) {
+        return parse_unit(rest);
+    }
+    if let Some(rest) = behind_word(b"spin", text) {
+        return parse_block(heap, Carrier::Spin, rest);
+    }
+    if let Some(rest) = behind_word(b"datagram", text) {
+        return parse_block(heap, Carrier::Datagram, rest);
+    }
+    parse_block(heap, Carrier::Datagram, text)
+}
+
+fn is_remark(text: &[u8]) -> bool
+    ensures { λ r. ⌜ r ≡ remark (now (text .entry)) ⌝ }
+{
+    match text.first() {
+        Some(b) => *b == b'#',
+        None => true,
     }
 }
 
-fn block(heap: Global, carrier: Carrier, hex: &str) -> Result<Line, BadLine> {
-    let bytes = bytes_of_hex(heap, hex.as_bytes())?;
-    Ok(Line::Block { carrier, bytes })
+fn parse_unit(text: &[u8]) -> Result<Line, BadLine>
+    ensures { λ r. ⌜ Parsed (unit-line (unit-number (now (text .entry)))) r ⌝ }
+{
+    match unit_number(text) {
+        Some(unit) => Ok(Line::Unit(unit)),
+        None => Err(BadLine::NoUnit),
+    }
 }
 
-fn parse_unit(text: &str) -> Result<Line, BadLine> {
-    let digits = text.trim_matches([' ', '\t']);
-    if digits.starts_with('+') {
-        return Err(BadLine::NoUnit);
-    }
-    match digits.parse::<u8>() {
-        Ok(unit) => Ok(Line::Unit(unit)),
-        Err(_) => Err(BadLine::NoUnit),
+fn parse_block(heap: Global, carrier: Carrier, text: &[u8]) -> Result<Line, BadLine>
+    ensures { λ r. ⌜ Parsed (block-line carrier (hex-bytes (now (text .entry)))) r ⌝ }
+{
+    match bytes_of_hex(heap, text) {
+        Ok(bytes) => Ok(Line::Block { carrier, bytes }),
+        Err(bad) => Err(bad),
     }
 }

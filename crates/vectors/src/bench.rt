@@ -7,7 +7,6 @@ ghost use mathlib.Core.Path.{_≡_};
 use recording::BadLine;
 use recording::BadLineDisplay;
 use recording::Line;
-use recording::line_text;
 use recording::parse_line;
 use std::alloc::AllocError;
 use std::alloc::Global;
@@ -87,14 +86,10 @@ impl Bench {
 
     /// Takes a line: one that begins with `= ` is expected of the block above it.
     pub fn add_line(&mut self, number: u64, line: &[u8]) -> Result<(), AllocError> {
-        let text = match line_text(line) {
-            Ok(text) => text,
-            Err(bad) => return self.add_bad(number, bad),
-        };
-        if let Some(expected) = text.strip_prefix("= ") {
+        if let [b'=', b' ', expected @ ..] = line {
             return self.add_expected(number, expected);
         }
-        match parse_line(self.heap, text) {
+        match parse_line(self.heap, line) {
             Ok(Line::Blank) => Ok(()),
             Ok(Line::Unit(unit)) => {
                 self.unit = Some(unit);
@@ -135,10 +130,13 @@ impl Bench {
         Ok(())
     }
 
-    fn add_expected(&mut self, number: u64, line: &str) -> Result<(), AllocError> {
+    fn add_expected(&mut self, number: u64, line: &[u8]) -> Result<(), AllocError> {
+        let Some(text) = text_of(line) else {
+            return self.add_fault(number, "no text");
+        };
         match &mut self.trial {
             Some(trial) => {
-                trial.expected.push_str(line)?;
+                trial.expected.push_str(text)?;
                 trial.expected.push_str("\n")
             }
             None => self.add_fault(number, "no block to expect this of"),
@@ -157,5 +155,13 @@ impl Bench {
         self.score.differ = self.score.differ.saturating_add(1);
         let said = format!(self.heap, "line {number}: {why}\n")?;
         self.text.push_str(said.as_str())
+    }
+}
+
+/// A line as text, without its end.
+fn text_of(line: &[u8]) -> Option<&str> {
+    match std::str::from_utf8(line) {
+        Ok(text) => Some(text.trim_end_matches(['\r', '\n'])),
+        Err(_) => None,
     }
 }

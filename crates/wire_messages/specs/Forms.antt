@@ -8,8 +8,9 @@ use Rattle.std.specs.declared.result.Result.{Result}
 use Rattle.std.specs.declared.result.Result.the-variants.{Ok, Err}
 use Rattle.wire_definitions.specs.Definitions.{definition-at}
 use Rattle.wire_messages.specs.Kinds.{kind-of, least, table-length}
-use Rattle.wire_notices.specs.Layouts.{time-at, time-reference-at, unit-clear-at, trading-status-at, settlement-at, price-limits-at, end-of-session-at, end-of-day-summary-at, open-interest-at, spin-image-available-at, spin-response-at, spin-finished-at}
+use Rattle.wire_notices.specs.Layouts.{trading-status-at, settlement-at, price-limits-at, end-of-day-summary-at, open-interest-at}
 use Rattle.wire_quotes.specs.Layouts.{snapshot-short-at, snapshot-long-at, single-side-short-at, single-side-long-at, two-side-short-at, two-side-long-at, top-trade-at}
+use Rattle.wire_session.specs.Layouts.{time-at, time-reference-at, unit-clear-at, end-of-session-at, spin-image-available-at, spin-response-at, spin-finished-at}
 use Rattle.wire_types.specs.Records.{Record, unlisted}
 use Rattle.wire_types.specs.Refusals.{Breach, breach, and-then}
 use Rattle.wire_types.specs.declared.header.Carrier.{Carrier}

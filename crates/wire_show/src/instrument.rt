@@ -2,6 +2,7 @@
 use std::fmt;
 use wire_definitions::leg_count;
 use wire_definitions::read_leg;
+use wire_names::listing_name;
 use wire_types::Definition;
 use wire_types::Legs;
 use wire_types::Structure;
@@ -10,7 +11,6 @@ use wire_words::Decimal;
 use wire_words::DecimalDisplay;
 use wire_words::Symbol;
 use wire_words::SymbolDisplay;
-use wire_words::listing_name;
 use wire_words::price;
 
 pub(crate) fn show_definition<W: fmt::Write>(

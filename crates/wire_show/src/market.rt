@@ -1,5 +1,9 @@
 // Quotes, trades and what else tells of one symbol's market, in words.
 use std::fmt;
+use wire_names::condition_name;
+use wire_names::issue_name;
+use wire_names::side_name;
+use wire_names::status_name;
 use wire_types::LastTrade;
 use wire_types::PriceLimits;
 use wire_types::Settlement;
@@ -13,11 +17,7 @@ use wire_words::ShownQuote;
 use wire_words::ShownQuoteDisplay;
 use wire_words::Symbol;
 use wire_words::SymbolDisplay;
-use wire_words::condition_name;
-use wire_words::issue_name;
 use wire_words::price;
-use wire_words::side_name;
-use wire_words::status_name;
 
 pub(crate) fn show_status<W: fmt::Write>(
     m: TradingStatus<'_>,

@@ -1,3 +1,2 @@
 pub mod Decimals
 pub mod Lines
-pub mod Names

@@ -1,5 +1,5 @@
 // The words for codes.
-ghost use Rattle.wire_words.specs.Names.{carrier-word, side-word, status-word, condition-word, issue-word, listing-word};
+ghost use Rattle.wire_names.specs.Names.{carrier-word, side-word, status-word, condition-word, issue-word, listing-word};
 ghost use mathlib.Core.Path.{_≡_};
 use wire_types::Carrier;
 use wire_types::Condition;

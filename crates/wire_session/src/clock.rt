@@ -1,6 +1,6 @@
 // The clock of a unit: Time, Time Reference, Unit Clear, End of Session.
 ghost use Prim.Native.Nat.{_≤_};
-ghost use Rattle.wire_notices.specs.Layouts.{time-at, time-reference-at, unit-clear-at, end-of-session-at};
+ghost use Rattle.wire_session.specs.Layouts.{time-at, time-reference-at, unit-clear-at, end-of-session-at};
 ghost use Rattle.wire_types.specs.Records.{meaning};
 ghost use Rattle.wire_types.specs.Refusals.{reads};
 ghost use lib.ListN.{length};

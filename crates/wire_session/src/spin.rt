@@ -1,6 +1,6 @@
 // The messages that only spin blocks know.
 ghost use Prim.Native.Nat.{_≤_};
-ghost use Rattle.wire_notices.specs.Layouts.{spin-image-available-at, spin-response-at, spin-finished-at};
+ghost use Rattle.wire_session.specs.Layouts.{spin-image-available-at, spin-response-at, spin-finished-at};
 ghost use Rattle.wire_types.specs.Records.{meaning};
 ghost use Rattle.wire_types.specs.Refusals.{reads};
 ghost use lib.ListN.{length};
