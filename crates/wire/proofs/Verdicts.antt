@@ -14,9 +14,7 @@ use Rattle.std.specs.declared.result.Result.the-variants.{Ok, Err}
 use Rattle.wire_messages.proofs.Tails.{length-front, same-kind}
 use Rattle.wire_messages.proofs.Verdicts.{Told, tell}
 use Rattle.wire_messages.specs.Forms.{decoded}
-use Rattle.wire_messages.specs.Kinds.{kind-of}
-use Rattle.wire_messages.specs.Rules.{Good, Refused, Sound, front, front-kind}
-use Rattle.wire_messages.specs.Tails.{Taken}
+use Rattle.wire_messages.specs.Rules.{Good, Refused, Sound, front}
 use Rattle.wire_types.specs.Records.{Record}
 use Rattle.wire_types.specs.Refusals.{Breach, Refusal, refusal, and-then, answers, refusal-of}
 use Rattle.wire_types.specs.declared.fault.Fault.{Fault}
@@ -25,7 +23,7 @@ use Rattle.wire_types.specs.declared.header.Carrier.{Carrier}
 use Rattle.wire_types.specs.declared.header.Header.{Header}
 use Rattle.wire.specs.Blocks.{behind-messages, checked, for-unit, header-rules, in-range, nothing-left}
 use Rattle.wire.specs.Laws.{Accepted, All-whole, Begins, First-fault, Opened, Whole, end-to-end, in-message, left-over, no-header, other-length, other-unit, out-of-range}
-use Rattle.wire.specs.Reading.{header-at, header-of, placed}
+use Rattle.wire_reader.specs.Reading.{header-of, placed}
 
 -- k messages stand in front of the bytes, and then the rest
 pub record Passed (carrier : Carrier) (k : ℕ) (bytes rest : List ℕ) : Type 0 where

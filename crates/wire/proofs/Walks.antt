@@ -10,7 +10,6 @@ use lib.ListN.{getD, drop, length}
 use Rattle.std.proofs.shelf.Lists.{length-drop}
 use Rattle.std.proofs.str.Laws.{order}
 use Rattle.std.specs.Results.{mapped}
-use Rattle.std.specs.declared.option.Option.{Option}
 use Rattle.std.specs.declared.option.Option.the-variants.{Some, None}
 use Rattle.std.specs.declared.result.Result.{Result}
 use Rattle.std.specs.declared.result.Result.the-variants.{Ok, Err}
@@ -20,7 +19,7 @@ use Rattle.wire_types.specs.declared.fault.Layer.the-variants as the-layer
 use Rattle.wire_types.specs.declared.header.Carrier.{Carrier}
 use Rattle.wire_types.specs.declared.header.Header.{Header}
 use Rattle.wire.specs.Blocks.{behind-messages, left-behind, checked, header-rules, nothing-left}
-use Rattle.wire.specs.Reading.{Standing, at-start, header-at, header-of, after-header, behind-header, header-step, message-ahead, message-step, after-message, behind-message, message-at, moved}
+use Rattle.wire_reader.specs.Reading.{Standing, at-start, header-at, header-of, after-header, behind-header, header-step, message-ahead, message-step, after-message, behind-message, message-at, moved}
 
 pub step : (carrier : Carrier) (k place : ℕ) (bytes : List ℕ) → 0 < k → behind-messages carrier k place bytes ≡ and-then (message-at carrier place bytes) (λ _. behind-messages carrier (k - 1) (place + 1) (drop (getD bytes 0 0) bytes))
 unfolding behind-messages

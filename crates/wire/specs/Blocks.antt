@@ -12,7 +12,7 @@ use Rattle.wire_types.specs.declared.fault.Layer.the-variants as the-layer
 use Rattle.wire_types.specs.declared.header.Carrier.{Carrier}
 use Rattle.wire_types.specs.declared.header.Carrier.the-variants.{Datagram, Spin}
 use Rattle.wire_types.specs.declared.header.Header.{Header}
-use Rattle.wire.specs.Reading.{Standing, header-at, message-at}
+use Rattle.wire_reader.specs.Reading.{Standing, header-at, message-at}
 
 -- Hdr Unit is the unit asked for, or Hdr Unit and Hdr Sequence are 0
 abbrev pub for-unit : ℕ → Header → Bool

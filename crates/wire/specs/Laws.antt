@@ -11,7 +11,7 @@ use Rattle.wire_types.specs.declared.fault.Layer.the-variants as the-layer
 use Rattle.wire_types.specs.declared.header.Carrier.{Carrier}
 use Rattle.wire_types.specs.declared.header.Header.{Header}
 use Rattle.wire.specs.Blocks.{for-unit, in-range}
-use Rattle.wire.specs.Reading.{header-of, placed}
+use Rattle.wire_reader.specs.Reading.{header-of, placed}
 
 -- messages laid end to end
 abbrev pub end-to-end : List (List ℕ) → List ℕ

@@ -11,12 +11,11 @@ use Rattle.std.specs.Options.{orOther}
 use Rattle.std.specs.Runs.{nth}
 use Rattle.std.specs.declared.option.Option.{Option}
 use Rattle.std.specs.declared.option.Option.the-variants.{Some, None}
-use Rattle.std.specs.declared.result.Result.{Result}
 use Rattle.std.specs.declared.result.Result.the-variants.{Ok, Err}
 use Rattle.wire_definitions.specs.Definitions.{first-bad-leg}
 use Rattle.wire_fields.specs.Symbols.{first-bad, unless-bad}
 use Rattle.wire_types.proofs.Spans.{le-drop}
-use Rattle.wire_types.specs.Legs.{LegRecord, leg-of, first-legs}
+use Rattle.wire_types.specs.Legs.{leg-of, first-legs}
 use Rattle.wire_types.specs.Numbers.{le, signed}
 use Rattle.wire_types.specs.Refusals.{Breach}
 

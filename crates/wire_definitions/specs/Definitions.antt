@@ -1,19 +1,19 @@
 -- 0xBB Futures Instrument Definition, whose length depends on what the instrument is made of. m is the whole message, of 45 bytes
 -- at least. Assumes nothing.
-use Prim.Native.Nat.{ℕ, zero, suc, _+_, _*_, _/_, _%_}
+use Prim.Native.Nat.{ℕ, zero, suc, _+_, _*_, _%_}
 use mathlib.Core.Bool.{Bool, cond, _&&_, _||_}
 use mathlib.Core.List.{List}
-use lib.Dec.{leb, ltb, eqb}
+use lib.Dec.{leb, eqb}
 use lib.ListN.{getD, length, take, drop}
 use Rattle.std.specs.Options.{orOther}
 use Rattle.std.specs.declared.option.Option.{Option}
-use Rattle.std.specs.declared.option.Option.the-variants.{Some, None}
+use Rattle.std.specs.declared.option.Option.the-variants.{None}
 use Rattle.std.specs.declared.result.Result.{Result}
 use Rattle.std.specs.declared.result.Result.the-variants.{Ok, Err}
 use Rattle.wire_fields.specs.Codes.{code-at, listing-of}
-use Rattle.wire_fields.specs.Prices.{long-price}
+use Rattle.wire_numbers.specs.Prices.{long-price}
 use Rattle.wire_fields.specs.Symbols.{symbol-at, first-bad, unless-bad}
-use Rattle.wire_types.specs.Legs.{LegRecord, leg-of, legs-in}
+use Rattle.wire_types.specs.Legs.{LegRecord, legs-in}
 use Rattle.wire_types.specs.Numbers.{le, signed}
 use Rattle.wire_types.specs.Records.{Record, Makeup, outright, spread, variance-future, definition}
 use Rattle.wire_types.specs.Refusals.{Breach, breach, and-then}

@@ -2,24 +2,20 @@
 use mathlib.Core.Path.{_≡_, refl, sym, ap, _∙_}
 use mathlib.Core.Bool.{Bool, true, false, cond, _&&_, _||_}
 use mathlib.Core.List.{List}
-use Prim.Native.Nat.{ℕ, zero, suc, _+_, _*_, _%_, _<_, _≤_}
+use Prim.Native.Nat.{ℕ, zero, suc, _+_, _*_, _<_, _≤_}
 use native.Mathlib.Omega.{arith}
-use lib.Dec.{leb, ltb, eqb, T}
+use lib.Dec.{leb, eqb}
 use lib.IntN.{ℤ}
 use lib.ListN.{getD, length, take, drop}
 use Rattle.std.proofs.shelf.Lists.{ext-getD, getD-take, getD-drop, length-take, length-drop}
 use Rattle.std.proofs.shelf.Ways.{tells}
-use Rattle.std.specs.Options.{orOther}
-use Rattle.std.specs.declared.option.Option.{Option}
-use Rattle.std.specs.declared.option.Option.the-variants.{Some, None}
 use Rattle.std.specs.declared.result.Result.{Result}
 use Rattle.std.specs.declared.result.Result.the-variants.{Ok, Err}
 use Rattle.wire_definitions.specs.Definitions.{definition-at, makeup-at, parts-at, first-bad-leg, keeps-leg-rule, is-variance, leg-count, legs-at, variance-at}
 use Rattle.wire_fields.specs.Codes.{code-at, listing-of}
-use Rattle.wire_fields.specs.Prices.{long-price}
-use Rattle.wire_fields.specs.Symbols.{first-bad, unless-bad, symbol-at, printable}
+use Rattle.wire_fields.specs.Symbols.{first-bad, symbol-at}
 use Rattle.wire_messages.specs.Tails.{span}
-use Rattle.wire_types.specs.Legs.{LegRecord, legs-in}
+use Rattle.wire_types.specs.Legs.{LegRecord}
 use Rattle.wire_types.specs.Numbers.{le, signed}
 use Rattle.wire_types.specs.Records.{Record, Makeup, outright, spread, variance-future, definition}
 use Rattle.wire_types.specs.Refusals.{Breach, breach, and-then}

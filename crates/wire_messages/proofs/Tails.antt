@@ -1,17 +1,16 @@
 -- What stands behind the span of a message never changes its record.
 use mathlib.Core.Path.{_≡_, refl, sym, ap, _∙_}
-use mathlib.Core.Bool.{Bool, true, false, cond, _&&_}
+use mathlib.Core.Bool.{Bool, true, false, cond}
 use mathlib.Core.List.{List, [], _∷_, _++_}
 use mathlib.Core.Logic.{_≢_}
 use Prim.Native.Nat.{ℕ, zero, suc, _+_, _-_, _*_, _<_, _≤_}
 use borrow.Author.Tests.{le-ltb, le-leb}
 use native.Mathlib.Omega.{arith}
-use lib.Dec.{leb, ltb, lit≤}
-use lib.ListN.{getD, length, take, drop, set}
+use lib.Dec.{lit≤}
+use lib.ListN.{getD, length, take, drop}
 use Rattle.std.proofs.shelf.Lists.{getD-take, getD-set-same, getD-set-other, getD-append-left, length-set, length-append, length-take-le}
 use Rattle.std.proofs.shelf.Ways.{tells}
-use Rattle.std.specs.declared.result.Result.{Result}
-use Rattle.std.specs.declared.result.Result.the-variants.{Ok, Err}
+use Rattle.std.specs.declared.result.Result.the-variants.{Ok}
 use Rattle.wire_definitions.specs.Definitions.{is-variance, leg-count, keeps-leg-rule}
 use Rattle.wire_fields.specs.Symbols.{first-bad}
 use Rattle.wire_messages.proofs.Alike.{Alike, part-alike, definition-alike}
@@ -20,7 +19,7 @@ use Rattle.wire_messages.specs.Kinds.{kind-of, least, table-length}
 use Rattle.wire_messages.specs.Rules.{Sound, Framed, front, front-kind}
 use Rattle.wire_messages.specs.Tails.{span, with-tail, Tail-ignored}
 use Rattle.wire_types.specs.Records.{Record, unlisted}
-use Rattle.wire_types.specs.Refusals.{Breach, breach, and-then}
+use Rattle.wire_types.specs.Refusals.{and-then}
 use Rattle.wire_types.specs.declared.header.Carrier.{Carrier}
 use Rattle.wire_types.specs.declared.kind.FixedKind.{FixedKind}
 use Rattle.wire_types.specs.declared.kind.FixedKind.the-variants as the

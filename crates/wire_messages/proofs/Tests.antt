@@ -1,11 +1,11 @@
 -- The first byte that fails a list of tests, and that it is the lowest.
-use mathlib.Core.Path.{_≡_, refl, sym, ap, subst, _∙_}
+use mathlib.Core.Path.{_≡_, refl, sym, _∙_}
 use mathlib.Core.Bool.{Bool, true, false, cond}
 use mathlib.Core.List.{List, [], _∷_}
 use mathlib.Core.Logic.{_⊎_, inl, inr, ⊎-elim}
 use Prim.Native.Nat.{ℕ, zero, suc, _+_, _<_, _≤_}
 use native.Mathlib.Omega.{arith}
-use lib.ListN.{getD, length, take}
+use lib.ListN.{getD, take}
 use Rattle.std.proofs.shelf.Lists.{getD-take}
 use Rattle.std.proofs.str.Laws.{order}
 use Rattle.std.specs.Options.{orOther}

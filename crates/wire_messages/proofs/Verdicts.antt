@@ -1,27 +1,26 @@
 -- What a reader answers, by the rules: a message is sound, or the first rule that it breaks is told.
 use mathlib.Core.Path.{_≡_, refl, sym, ap, subst, _∙_}
-use mathlib.Core.Bool.{Bool, true, false, cond, _&&_}
+use mathlib.Core.Bool.{Bool, true, false, cond}
 use mathlib.Core.List.{List}
 use mathlib.Core.Logic.{_⊎_, inl, inr, ⊎-elim}
-use Prim.Native.Nat.{ℕ, _+_, _*_, _<_, _≤_}
+use Prim.Native.Nat.{ℕ, _+_, _*_, _≤_}
 use borrow.Author.Tests.{ltb-true, ltb-false, leb-true, leb-false}
 use native.Mathlib.Omega.{arith}
 use lib.Dec.{ltb, leb}
 use lib.ListN.{getD, length, take}
-use Rattle.std.proofs.shelf.Ways.{tells}
 use Rattle.std.specs.Options.{orOther}
 use Rattle.std.specs.Results.{errPart, Cases}
 use Rattle.std.specs.declared.option.Option.{Option}
 use Rattle.std.specs.declared.option.Option.the-variants.{Some, None}
 use Rattle.std.specs.declared.result.Result.{Result}
 use Rattle.std.specs.declared.result.Result.the-variants.{Ok, Err}
-use Rattle.wire_definitions.specs.Definitions.{definition-at, makeup-at, keeps-leg-rule, leg-count}
+use Rattle.wire_definitions.specs.Definitions.{makeup-at, keeps-leg-rule, leg-count}
 use Rattle.wire_messages.proofs.Firsts.{at-byte, by-first-fail, fixed-first, fixed-ordered, definition-first, definition-ordered, legs-ordered, makeup-first}
 use Rattle.wire_messages.proofs.Tails.{framed-form, tail-ignored}
-use Rattle.wire_messages.proofs.Tests.{first-fail, first-fail-none, first-fail-some, outside-front, outside-whole, or-none, or-some}
-use Rattle.wire_messages.specs.Forms.{fixed-at, kind-at, form-at, form, frame, decoded}
+use Rattle.wire_messages.proofs.Tests.{first-fail, first-fail-none, first-fail-some, outside-front, outside-whole}
+use Rattle.wire_messages.specs.Forms.{kind-at, form-at, form, frame, decoded}
 use Rattle.wire_messages.specs.Kinds.{least, table-length}
-use Rattle.wire_messages.specs.Rules.{Within, Lowest, Sound, Breaks, too-short, not-listed, rule-broken, leg-not-listed, Framed, Good, Refused, not-framed, broken, fixed-tests, tests, leg-symbols, front, front-kind}
+use Rattle.wire_messages.specs.Rules.{Within, Lowest, Sound, Breaks, too-short, not-listed, rule-broken, leg-not-listed, Framed, Refused, not-framed, broken, fixed-tests, tests, leg-symbols, front, front-kind}
 use Rattle.wire_messages.specs.Tails.{Taken}
 use Rattle.wire_types.specs.Records.{Record, meaning}
 use Rattle.wire_types.specs.Refusals.{Breach, breach, breach-of, and-then, reads}

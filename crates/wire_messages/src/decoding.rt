@@ -1,7 +1,7 @@
 // A message's bytes in, its record or its first fault out.
 ghost use Prim.Native.Nat.{_≤_};
 ghost use Rattle.std.specs.Results.{Cases};
-ghost use Rattle.wire_messages.specs.Forms.{decoded, fixed-at, form, form-at, frame as framed, kind-at};
+ghost use Rattle.wire_messages.specs.Forms.{decoded, fixed-at, form-at, frame as framed, kind-at};
 ghost use Rattle.wire_messages.specs.Kinds.{least, table-length};
 ghost use Rattle.wire_messages.specs.Rules.{Refused};
 ghost use Rattle.wire_messages.specs.Tails.{Taken};

@@ -6,7 +6,7 @@ use lib.ListN.{getD}
 use Rattle.std.specs.declared.result.Result.{Result}
 use Rattle.std.specs.declared.result.Result.the-variants.{Ok}
 use Rattle.wire_fields.specs.Codes.{code-at, status-of, issue-of}
-use Rattle.wire_fields.specs.Prices.{long-price}
+use Rattle.wire_numbers.specs.Prices.{long-price}
 use Rattle.wire_fields.specs.Symbols.{symbol-at}
 use Rattle.wire_types.specs.Numbers.{le}
 use Rattle.wire_types.specs.Records.{Record, trading-status, settlement, price-limits, end-of-day-summary, open-interest}

@@ -5,7 +5,7 @@ use mathlib.Core.List.{List}
 use Rattle.std.specs.declared.result.Result.{Result}
 use Rattle.std.specs.declared.result.Result.the-variants.{Ok}
 use Rattle.wire_fields.specs.Codes.{code-at, side-of, status-of, condition-of}
-use Rattle.wire_fields.specs.Prices.{long-price, short-price, long-quote, short-quote}
+use Rattle.wire_numbers.specs.Prices.{long-price, short-price, long-quote, short-quote}
 use Rattle.wire_fields.specs.Symbols.{symbol-at}
 use Rattle.wire_types.specs.Numbers.{le}
 use Rattle.wire_types.specs.Records.{Record, snapshot, single-side, two-side, top-trade}

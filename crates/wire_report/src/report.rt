@@ -12,7 +12,7 @@ ghost use mathlib.Core.List.{_++_};
 ghost use mathlib.Core.Path.{_≡_};
 use std::alloc::AllocError;
 use std::alloc::Global;
-use wire::Reader;
+use wire_reader::Reader;
 use wire_show::Shown;
 use wire_show::ShownDisplay;
 use wire_types::Carrier;

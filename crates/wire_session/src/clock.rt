@@ -5,7 +5,7 @@ ghost use Rattle.wire_types.specs.Records.{meaning};
 ghost use Rattle.wire_types.specs.Refusals.{reads};
 ghost use lib.ListN.{length};
 ghost use mathlib.Core.Path.{_≡_};
-use wire_fields::read_u32;
+use wire_numbers::read_u32;
 use wire_types::Flaw;
 use wire_types::Message;
 use wire_types::Time;

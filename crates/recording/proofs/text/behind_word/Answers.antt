@@ -1,4 +1,4 @@
-use mathlib.Core.Path.{_≡_, sym, ap, _∙_}
+use mathlib.Core.Path.{sym, ap, _∙_}
 use mathlib.Core.Bool.{cond}
 use Rattle.recording.specs.Text.{behind-word}
 use Rattle.recording.proofs.Words.{one-letter, other-letter, no-letter, whole-word}

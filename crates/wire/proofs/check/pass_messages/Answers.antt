@@ -1,10 +1,9 @@
-use mathlib.Core.Path.{_≡_, sym, ap, _∙_}
+use mathlib.Core.Path.{sym, ap, _∙_}
 use Rattle.std.proofs.shelf.Results.{err-from-errBy}
 use Rattle.std.specs.Options.{mapped}
-use Rattle.std.specs.declared.option.Option.the-variants.{Some, None}
-use Rattle.std.specs.declared.result.Result.the-variants.{Ok, Err}
+use Rattle.std.specs.declared.result.Result.the-variants.{Ok}
 use Rattle.wire_types.specs.Records.{meaning}
-use Rattle.wire.specs.Reading.{standing}
+use Rattle.wire_reader.specs.Reading.{standing}
 use Rattle.wire.proofs.Walks.{on-some, on-none, on-err}
 use Rattle.wire.proofs.check.pass_messages.Needs as need
 

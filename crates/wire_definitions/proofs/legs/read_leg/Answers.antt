@@ -1,4 +1,3 @@
-use mathlib.Core.Path.{_≡_, sym}
 use Prim.Native.Nat.{_*_, _/_}
 use lib.ListN.{length}
 use Rattle.wire_definitions.proofs.Walks.{nth-leg, no-leg, leg-behind}

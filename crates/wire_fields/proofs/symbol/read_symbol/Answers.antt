@@ -1,7 +1,6 @@
-use mathlib.Core.Path.{_≡_, refl, sym}
-use Prim.Native.Nat.{_+_, _-_}
+use mathlib.Core.Path.{refl, sym}
+use Prim.Native.Nat.{_-_}
 use native.Mathlib.Nat.{add-zero}
-use native.Mathlib.Omega.{arith}
 use Rattle.wire_fields.proofs.Searches.{bad, good, none}
 use Rattle.wire_fields.proofs.symbol.read_symbol.Needs as need
 

@@ -1,5 +1,3 @@
-use mathlib.Core.Path.{sym, subst}
-use Prim.Native.Nat.{_<_}
 use native.Mathlib.Nat.{one-le-pow}
 use native.Mathlib.Omega.{arith}
 use borrow.Author.Needs.{needs}

@@ -1,6 +1,6 @@
 // Prices, kept in ten-thousandths, and quotes of a price and a quantity.
 ghost use Prim.Native.Nat.{_+_, _≤_};
-ghost use Rattle.wire_fields.specs.Prices.{Short-price-ends, long-price, short-price, short-quote, long-quote};
+ghost use Rattle.wire_numbers.specs.Prices.{Short-price-ends, long-price, short-price, short-quote, long-quote};
 ghost use lib.IntN.{negsuc, pos};
 ghost use lib.ListN.{length};
 ghost use lib.Signed.{_≤ℤ_};

@@ -1,17 +1,17 @@
 // The steps of a reader.
-ghost use Prim.Native.Nat.{_+_, _≤_};
+ghost use Prim.Native.Nat.{_+_};
 ghost use Rattle.std.specs.Options.{mapped};
 ghost use Rattle.std.specs.Results.{Cases};
 ghost use Rattle.wire_messages.specs.Rules.{Framed};
 ghost use Rattle.wire_types.specs.Records.{meaning};
 ghost use Rattle.wire_types.specs.Refusals.{answers, breach-of, refusal-of};
-ghost use Rattle.wire.specs.Reading.{standing, at-start, header-at, header-of, header-step, after-header, message-at, message-step, after-message, placed};
+ghost use Rattle.wire_reader.specs.Reading.{standing, at-start, header-at, header-step, after-header, message-at, message-step, after-message, placed};
 ghost use lib.ListN.{length};
 ghost use mathlib.Core.Path.{_≡_};
 use crate::reader::Reader;
-use wire_fields::read_u16;
-use wire_fields::read_u32;
 use wire_messages::decode;
+use wire_numbers::read_u16;
+use wire_numbers::read_u32;
 use wire_types::Carrier;
 use wire_types::Fault;
 use wire_types::Flaw;

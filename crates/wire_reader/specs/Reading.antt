@@ -18,7 +18,7 @@ use Rattle.wire_types.specs.declared.fault.Layer.{Layer}
 use Rattle.wire_types.specs.declared.fault.Layer.the-variants as the-layer
 use Rattle.wire_types.specs.declared.header.Carrier.{Carrier}
 use Rattle.wire_types.specs.declared.header.Header.{Header}
-use Rattle.wire.specs.declared.reader.Reader.{Reader}
+use Rattle.wire_reader.specs.declared.reader.Reader.{Reader}
 
 -- the header in front of the bytes
 abbrev pub header-of : List ℕ → Header
