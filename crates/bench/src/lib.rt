@@ -1,4 +1,6 @@
 // What is said line by line, held to what is expected.
+#![tactic(auto)]
+
 mod score;
 mod trial;
 

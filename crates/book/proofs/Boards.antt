@@ -25,10 +25,6 @@ pub record Sound (st : Store) : Type 0 where
   pub sorted : ascends (used st) ≡ true
   pub rest : ∥ spare st ≡ replicate (size st - st.count) blank ∥₁
 
--- the same as a ghost field is answered
-pub fields : (st : Store) → Sound st → (1 ≤ size st) × ((size st ≤ 4096) × ((st.count ≤ size st) × ((ascends (used st) ≡ true) × (∥ spare st ≡ replicate (size st - st.count) blank ∥₁ × Unit {0}))))
-fields st s = (s.some, (s.few, (s.within, (s.sorted, (s.rest, tt)))))
-
 pub sound : (b : Board) → Sound b.store
 sound b = record { some = b.some; few = b.few; within = b.within; sorted = b.sorted; rest = b.rest }
 

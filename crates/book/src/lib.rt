@@ -1,4 +1,6 @@
 // Books: what each kind of them shows, a board of many rows and a watch of one.
+#![tactic(auto)]
+
 mod board;
 mod board_book;
 mod book;

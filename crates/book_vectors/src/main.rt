@@ -1,4 +1,6 @@
 // Drives books by a script, and holds what they answer to the lines that are expected.
+#![tactic(auto)]
+
 mod answer;
 mod command;
 mod making;
@@ -6,6 +8,7 @@ mod script;
 
 use crate::making::{Made, Rows};
 use crate::script::Script;
+use anyhow::anyhow;
 use book::Board;
 use std::alloc::AllocError;
 use std::io::Read;
@@ -24,7 +27,7 @@ fn run(rt: &HostRuntime) -> anyhow::Result<()> {
     rt.println(score)?;
     match score.verdict() {
         Ok(()) => Ok(()),
-        Err(why) => Err(why.into()),
+        Err(why) => Err(anyhow!(why)),
     }
 }
 

@@ -1,4 +1,6 @@
 // Says in words what the blocks of a recording hold.
+#![tactic(auto)]
+
 mod log;
 
 use crate::log::Log;

@@ -1,33 +1,34 @@
 -- The order of symbols is a strict total order, on lists of bytes of any length.
 use Rattle.std.proofs.Common.{◌≡◌, ℕ, ◌<◌, true, false, ◌⊎◌, List, ◌∷◌, Ordering, Less, Equal, Greater, sym, refl, ap, ◌∙◌, inl, inr, arith}
 use Rattle.std.proofs.lemmas.Map.Lookups.{exact_bytes}
-use Rattle.std.specs.Cmp.{nat_cmp_total}
-use Rattle.std.specs.Cmp.Lexicographic.{slice_cmp, lexical}
+use Rattle.std.proofs.lemmas.Cmp.{nat_list_cmp_total}
+use Rattle.std.specs.Cmp.{nat_cmp_is}
+use Rattle.std.specs.Cmp.Lexicographic.{slice_cmp}
 use Rattle.std.specs.Ordering.{is_eq, is_lt, ordering_reverse, ordering_then, nat_cmp}
 use Rattle.market.specs.Symbols.{against, precedes, same}
 
 -- the first bytes decide, unless they are the same
 pub head_less : (a b : ℕ) (s t : List ℕ) → a < b → against (a ∷ s) (b ∷ t) ≡ Less
 unfolding against
-head_less a b s t h = ap (λ o. ordering_then o (slice_cmp nat_cmp s t)) (sym (nat_cmp_total.says a b Less h))
+head_less a b s t h = ap (λ o. ordering_then o (slice_cmp nat_cmp s t)) (sym (nat_cmp_is a b Less h))
 
 pub head_greater : (a b : ℕ) (s t : List ℕ) → b < a → against (a ∷ s) (b ∷ t) ≡ Greater
 unfolding against
-head_greater a b s t h = ap (λ o. ordering_then o (slice_cmp nat_cmp s t)) (sym (nat_cmp_total.says a b Greater h))
+head_greater a b s t h = ap (λ o. ordering_then o (slice_cmp nat_cmp s t)) (sym (nat_cmp_is a b Greater h))
 
 pub head_same : (a b : ℕ) (s t : List ℕ) → a ≡ b → against (a ∷ s) (b ∷ t) ≡ against s t
 unfolding against
-head_same a b s t h = ap (λ o. ordering_then o (slice_cmp nat_cmp s t)) (sym (nat_cmp_total.says a b Equal h))
+head_same a b s t h = ap (λ o. ordering_then o (slice_cmp nat_cmp s t)) (sym (nat_cmp_is a b Equal h))
 
 -- ---- the laws of the order
 
 pub against_reversed : (s t : List ℕ) → against t s ≡ ordering_reverse (against s t)
 unfolding against
-against_reversed s t = (lexical nat_cmp_total).flip t s
+against_reversed s t = nat_list_cmp_total.antisymm t s
 
 pub against_chain : (s t u : List ℕ) → against s t ≡ Less → against t u ≡ Less → against s u ≡ Less
 unfolding against
-against_chain s t u p q = (lexical nat_cmp_total).trans s t u p q
+against_chain s t u p q = nat_list_cmp_total.trans s t u p q
 
 pub against_equal : (s t : List ℕ) → against s t ≡ Equal → s ≡ t
 unfolding against

@@ -1,4 +1,6 @@
 // A market: a clock, rows, and what a message does to them.
+#![tactic(auto)]
+
 mod clock;
 mod effect;
 mod laws;

@@ -20,10 +20,10 @@ pub struct Played {
 /// Applies the messages of a block to a book in order. One that does not fit is passed over and told.
 /// Where a message is not whole, neither it nor what stands behind it is applied.
 pub(crate) fn play_block<B: Book>(book: &mut B, block: &[u8]) -> Played
-    ensures book { view book.new ≡ applied_all (view book.old) (messages_of block.now) }
-    ensures played { result ≡ outcome (view book.old) (messages_of block.now) }
+    ensures book { B.view book.new ≡ applied_all (B.view book.old) (messages_of block.now) }
+    ensures played { result ≡ outcome (B.view book.old) (messages_of block.now) }
     ensures all { AllOfAccepted block.now }
-    ensures fold { result.declined ≡ 0 → view book.new ≡ unbounded (view book.old) (messages_of block.now) }
+    ensures fold { result.declined ≡ 0 → B.view book.new ≡ unbounded (B.view book.old) (messages_of block.now) }
 {
     if block.len() < 8 {
         return play_messages(book, 0, block);
@@ -34,8 +34,8 @@ pub(crate) fn play_block<B: Book>(book: &mut B, block: &[u8]) -> Played
 
 /// Applies the first `count` messages of the bytes, as far as they are whole.
 fn play_messages<B: Book>(book: &mut B, count: u8, bytes: &[u8]) -> Played
-    ensures book { view book.new ≡ applied_all (view book.old) (framed count bytes.now) }
-    ensures played { result ≡ outcome (view book.old) (framed count bytes.now) }
+    ensures book { B.view book.new ≡ applied_all (B.view book.old) (framed count bytes.now) }
+    ensures played { result ≡ outcome (B.view book.old) (framed count bytes.now) }
 {
     let mut played = Played {
         declined: 0,
@@ -56,8 +56,8 @@ fn play_messages<B: Book>(book: &mut B, count: u8, bytes: &[u8]) -> Played
 /// Applies the message at a place, and notes if it does not fit.
 fn play_one<B: Book>(book: &mut B, message: &[u8], place: u8, played: Played) -> Played
     requires { played.declined < 255 }
-    ensures book { view book.new ≡ applied (view book.old) message.now }
-    ensures played { result ≡ noted (full_for (view book.old) message.now) place played }
+    ensures book { B.view book.new ≡ applied (B.view book.old) message.now }
+    ensures played { result ≡ noted (full_for (B.view book.old) message.now) place played }
 {
     if book.apply(message) {
         return played;

@@ -1,4 +1,6 @@
 // Blocks played to a book: checked, and then message by message.
+#![tactic(auto)]
+
 mod block;
 mod taking;
 

@@ -26,10 +26,10 @@ pub fn take_block<B: Book>(
     unit: Option<u8>,
     block: &[u8],
 ) -> Result<Taken, Fault>
-    ensures answer { answers (λ t. t) result ≡ taken carrier unit block.now (view book.old) }
-    ensures book { view book.new ≡ taken_in carrier unit block.now (view book.old) }
+    ensures answer { answers (λ t. t) result ≡ taken carrier unit block.now (B.view book.old) }
+    ensures book { B.view book.new ≡ taken_in carrier unit block.now (B.view book.old) }
     ensures all { AllOfAccepted block.now }
-    ensures fold { IfOk result (λ t. Folds t.played block.now (view book.old) (view book.new)) }
+    ensures fold { IfOk result (λ t. Folds t.played block.now (B.view book.old) (B.view book.new)) }
 {
     let header = check_for(carrier, unit, block)?;
     if !is_played(carrier, header) {

@@ -1,4 +1,6 @@
 // A recording of blocks as text: one block a line, as hex digits.
+#![tactic(auto)]
+
 mod hex;
 mod line;
 mod text;

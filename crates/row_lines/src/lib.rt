@@ -1,4 +1,6 @@
 // A market as lines for scripts: the clock, and one exact line per row.
+#![tactic(auto)]
+
 mod clock;
 mod code;
 mod hex;

@@ -1,4 +1,6 @@
 // Rows in ascending order of symbol, on a slice that is lent.
+#![tactic(auto)]
+
 mod calls;
 mod place;
 mod store;

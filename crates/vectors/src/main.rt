@@ -1,7 +1,10 @@
 // Holds what is said of blocks to the lines that are expected of them.
+#![tactic(auto)]
+
 mod bench;
 
 use crate::bench::Bench;
+use anyhow::anyhow;
 use std::io::{BufRead, BufReader};
 
 fn main(rt: HostRuntime) -> anyhow::Result<()> {
@@ -24,6 +27,6 @@ fn run(rt: &HostRuntime) -> anyhow::Result<()> {
     rt.println(bench.score())?;
     match bench.score().verdict() {
         Ok(()) => Ok(()),
-        Err(why) => Err(why.into()),
+        Err(why) => Err(anyhow!(why)),
     }
 }

@@ -72,7 +72,7 @@ impl Log {
         line: &[u8],
     ) -> Result<(), AllocError>
         ensures unit { OnOk result (self.new.unit ≡ unit_after (line_of line.now) self.old.unit) }
-        ensures book { OnOk result (view book.new ≡ line_played (line_of line.now) self.old.unit (view book.old)) }
+        ensures book { OnOk result (B.view book.new ≡ line_played (line_of line.now) self.old.unit (B.view book.old)) }
     {
         match parse_line(self.heap, line) {
             Ok(Line::Blank) => Ok(()),
@@ -96,7 +96,7 @@ impl Log {
         block: &[u8],
     ) -> Result<(), AllocError>
         ensures unit { self.new.unit ≡ self.old.unit }
-        ensures book { view book.new ≡ taken_in carrier self.old.unit block.now (view book.old) }
+        ensures book { B.view book.new ≡ taken_in carrier self.old.unit block.now (B.view book.old) }
     {
         match take_block(book, carrier, self.unit, block) {
             Ok(taken) => self.add_taken(number, carrier, block.len(), taken),

@@ -1,4 +1,6 @@
 // Plays a recording into a book, and shows the market that comes of it.
+#![tactic(auto)]
+
 mod log;
 mod options;
 mod show;

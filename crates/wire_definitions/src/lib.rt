@@ -1,4 +1,6 @@
 // Futures Instrument Definition: the one listed type whose length depends on its content.
+#![tactic(auto)]
+
 mod definition;
 mod legs;
 mod structure;

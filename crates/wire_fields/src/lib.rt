@@ -1,4 +1,6 @@
 // The tested fields of a message: symbols and codes.
+#![tactic(auto)]
+
 mod code;
 mod symbol;
 

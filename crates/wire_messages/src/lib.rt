@@ -1,4 +1,6 @@
 // One message: framed by its Length, told by its type, read by its table.
+#![tactic(auto)]
+
 mod decoding;
 mod kind;
 

@@ -1,5 +1,7 @@
 // Readers of the types that tell of an instrument apart from its quotes. Each gets just the bytes of its table, whose number has
 // been tested.
+#![tactic(auto)]
+
 mod instrument;
 mod summary;
 

@@ -1,4 +1,6 @@
 // Numbers, prices and quotes out of a message's bytes.
+#![tactic(auto)]
+
 mod number;
 mod price;
 

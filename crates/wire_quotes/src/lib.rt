@@ -1,4 +1,6 @@
 // Readers of quotes and trades. Each gets just the bytes of its table, whose number has been tested.
+#![tactic(auto)]
+
 mod snapshot;
 mod trade;
 mod update;

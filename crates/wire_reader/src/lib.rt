@@ -1,4 +1,6 @@
 // A reader that steps over blocks, header by header and message by message.
+#![tactic(auto)]
+
 mod reader;
 mod stepping;
 

@@ -1,5 +1,7 @@
 // Readers of the types that name no instrument: the clock, the session and spins. Each gets just the bytes of its table, whose
 // number has been tested.
+#![tactic(auto)]
+
 mod clock;
 mod spin;
 

@@ -1,4 +1,6 @@
 // Messages in words.
+#![tactic(auto)]
+
 mod instrument;
 mod market;
 mod message;

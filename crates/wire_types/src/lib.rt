@@ -1,4 +1,6 @@
 // The types of the feed: codes, headers, messages and faults. Nothing here reads a byte.
+#![tactic(auto)]
+
 mod code;
 mod fault;
 mod header;

@@ -37,7 +37,7 @@ impl fmt::Display for Decimal {
 /// A number of units of the last of `places` places.
 fn write_pointed<W: fmt::Write>(f: &mut fmt::Formatter<W>, number: u64, places: u32) -> fmt::Result
     requires { places ≤ 19 }
-    ensures { WritesOnOk write_str_gives f.old result (pointed places number) f.new }
+    ensures { WritesOnOk W.write_str_gives f.old result (pointed places number) f.new }
 {
     let whole = number / power_of_ten(places);
     write!(f, "{whole}.")?;
@@ -47,7 +47,7 @@ fn write_pointed<W: fmt::Write>(f: &mut fmt::Formatter<W>, number: u64, places: 
 /// The last `places` digits of a number, zeros in front included.
 fn write_places<W: fmt::Write>(f: &mut fmt::Formatter<W>, number: u64, places: u32) -> fmt::Result
     requires { places ≤ 19 }
-    ensures { WritesOnOk write_str_gives f.old result (last_digits places number) f.new }
+    ensures { WritesOnOk W.write_str_gives f.old result (last_digits places number) f.new }
 {
     if places == 0 {
         return Ok(());

@@ -1,4 +1,6 @@
 // Prices, quotes, symbols and faults as text.
+#![tactic(auto)]
+
 mod decimal;
 mod fault;
 mod part;

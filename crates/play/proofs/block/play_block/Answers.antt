@@ -10,14 +10,14 @@ pub returns-then-block-lt8 : goal.returns-then-block-lt8
 returns-then-block-lt8 g c =
     let v = g.B.Book.view c.args.book.now in
     let none = framed_none c.args.block.now ∙ too_short c.args.block.now c.if-block-lt8.true in
-    let book = c.play-messages.ensures.book ∙ ap (applied_all v) none in
-    let played = c.play-messages.ensures.played ∙ ap (outcome v) none in
+    let book = c.play_messages.ensures.book ∙ ap (applied_all v) none in
+    let played = c.play_messages.ensures.played ∙ ap (outcome v) none in
     record { book = book; played = played; all = all_of_accepted c.args.block.now; fold = fold_of v _ _ _ book played }
 
 pub returns : goal.returns
 returns g c =
     let v = g.B.Book.view c.args.book.now in
-    let rest = ap (framed (get_or c.args.block.now 2 0)) c.split-at.ensures.back in
-    let book = c.play-messages-2.ensures.book ∙ ap (applied_all v) rest in
-    let played = c.play-messages-2.ensures.played ∙ ap (outcome v) rest in
+    let rest = ap (framed (get_or c.args.block.now 2 0)) c.split_at.ensures.back in
+    let book = c.play_messages-2.ensures.book ∙ ap (applied_all v) rest in
+    let played = c.play_messages-2.ensures.played ∙ ap (outcome v) rest in
     record { book = book; played = played; all = all_of_accepted c.args.block.now; fold = fold_of v _ _ _ book played }

@@ -4,18 +4,18 @@ use Rattle.store.proofs.place.seek.Goals as goal
 
 pub returns-then-at-count : goal.returns-then-at-count
 returns-then-at-count c = record {
-  place = sought_end c.args.rows.now c.args.count _ c.args.symbol.now c.requires.within c.requires.sorted c.find-place-at.ensures.place c.if-at-count.true;
-  within = c.find-place-at.ensures.within;
+  place = sought_end c.args.rows.now c.args.count _ c.args.symbol.now c.requires.within c.requires.sorted c.find_place-at.ensures.place c.if-at-count.true;
+  within = c.find_place-at.ensures.within;
 }
 
-pub returns-then-same-symbol : goal.returns-then-same-symbol
-returns-then-same-symbol c = record {
-  place = sought_here c.args.rows.now c.args.count _ c.args.symbol.now _ c.requires.within c.find-place-at.ensures.place (omega (arith, c.find-place-at.ensures.within)) c.if-same-symbol.ensures;
-  within = omega (arith, c.find-place-at.ensures.within);
+pub returns-then-same_symbol : goal.returns-then-same_symbol
+returns-then-same_symbol c = record {
+  place = sought_here c.args.rows.now c.args.count _ c.args.symbol.now _ c.requires.within c.find_place-at.ensures.place (omega (arith, c.find_place-at.ensures.within)) c.if-same_symbol.ensures;
+  within = omega (arith, c.find_place-at.ensures.within);
 }
 
-pub returns-else-same-symbol : goal.returns-else-same-symbol
-returns-else-same-symbol c = record {
-  place = sought_other c.args.rows.now c.args.count _ c.args.symbol.now _ c.requires.within c.requires.sorted c.find-place-at.ensures.place (omega (arith, c.find-place-at.ensures.within)) c.if-same-symbol.ensures;
-  within = c.find-place-at.ensures.within;
+pub returns-else-same_symbol : goal.returns-else-same_symbol
+returns-else-same_symbol c = record {
+  place = sought_other c.args.rows.now c.args.count _ c.args.symbol.now _ c.requires.within c.requires.sorted c.find_place-at.ensures.place (omega (arith, c.find_place-at.ensures.within)) c.if-same_symbol.ensures;
+  within = c.find_place-at.ensures.within;
 }

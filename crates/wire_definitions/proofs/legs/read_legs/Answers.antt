@@ -3,13 +3,13 @@ use Rattle.std.proofs.lemmas.Result.{err_from_is_err_and}
 use Rattle.wire_definitions.proofs.Walks.{stops, goes, ends}
 use Rattle.wire_definitions.proofs.legs.read_legs.Goals as goal
 
-pub returns-in-err-read-symbol : goal.returns-in-err-read-symbol
-returns-in-err-read-symbol c =
-    let p = err_from_is_err_and c.from-residual.result c.from-residual.ensures.1 in
-    rw (p.1, p.2) (stops _ c.loop-i.i _ _ c.loop-i.invariant c.loop-i-test.true _ _ _ c.in-err-read-symbol.ensures)
+pub returns-in_err-read_symbol : goal.returns-in_err-read_symbol
+returns-in_err-read_symbol c =
+    let p = err_from_is_err_and c.from_residual.result c.from_residual.ensures.1 in
+    rw (p.1, p.2) (stops _ c.loop-i.i _ _ c.loop-i.invariant c.loop-i-test.true _ _ _ c.in_err-read_symbol.ensures)
 
 pub loop-i-preserved : goal.loop-i-preserved
-loop-i-preserved c = goes _ c.loop-i.i _ _ c.loop-i.invariant c.loop-i-test.true _ _ c.in-ok-read-symbol.ensures
+loop-i-preserved c = goes _ c.loop-i.i _ _ c.loop-i.invariant c.loop-i-test.true _ _ c.in_ok-read_symbol.ensures
 
 pub returns : goal.returns
 returns c =

@@ -15,8 +15,8 @@ returns-then-places-eq0 g t c =
 pub returns : goal.returns
 returns g t c =
     λ plain ok.
-    let digit = c.write.ensures.writes plain (ap is_ok c.in-ok-write.was) in
-    let others = c.write-places.ensures digit.plain ok in
+    let digit = c.write.ensures.writes plain (ap is_ok c.in_ok-write.was) in
+    let others = c.write_places.ensures digit.plain ok in
     let number = c.args.number in
-    has_written_of_eq g.W.Write.write_str_gives _ _ _ _ (one_more c.args.places number _ (omega arith) (ap (λ p. number / p % 10) c.power-of-ten.ensures.value))
+    has_written_of_eq g.W.Write.write_str_gives _ _ _ _ (one_more c.args.places number _ (omega arith) (ap (λ p. number / p % 10) c.power_of_ten.ensures.value))
     (has_written_append g.W.Write.write_str_gives _ _ _ _ _ digit others)

@@ -6,20 +6,22 @@ use Rattle.market.proofs.Applied.{viewed, viewed_as, by_aim}
 use Rattle.store.specs.Stores.{full, size, used}
 use Rattle.book.specs.Kinds.{board_kind}
 use Rattle.book.specs.Views.{board_view}
-use Rattle.book.proofs.Boards.{fields, sound, sound_edited, sound_upserted, viewed_cond}
+use Rattle.book.proofs.Boards.{sound, sound_edited, sound_upserted, viewed_cond}
 use Rattle.book.proofs.board_book.BoardBook.apply.Goals as goal
 
-pub invariant-of-self-in-EveryRow : goal.invariant-of-self-in-EveryRow
-invariant-of-self-in-EveryRow c =
+pub invariant_of-self-in-EveryRow : goal.invariant_of-self-in-EveryRow
+invariant_of-self-in-EveryRow c =
     let b = c.args.self.now in
-    let e = c.edit-all.ensures in
-    fields c.edit-all.new.self (sound_edited b.store c.edit-all.new.self (does c.hear-message.result) (sound b) e.used e.spare e.count e.size)
+    let e = c.edit_all.ensures in
+    let s = sound_edited b.store c.edit_all.new.self (does c.hear-message.result) (sound b) e.used e.spare e.count e.size in
+    record { some = s.some; few = s.few; within = s.within; sorted = s.sorted; rest = s.rest }
 
-pub invariant-of-self-in-Row : goal.invariant-of-self-in-Row
-invariant-of-self-in-Row c =
+pub invariant_of-self-in-Row : goal.invariant_of-self-in-Row
+invariant_of-self-in-Row c =
     let b = c.args.self.now in
-    let e = c.edit-one.ensures in
-    fields c.edit-one.new.self (sound_upserted b.store c.edit-one.new.self c.in-Row.symbol.now (does c.hear-message.result) (sound b) e.used e.spare e.size e.within e.grows)
+    let e = c.edit_one.ensures in
+    let s = sound_upserted b.store c.edit_one.new.self c.in-Row.symbol.now (does c.hear-message.result) (sound b) e.used e.spare e.size e.within e.grows in
+    record { some = s.some; few = s.few; within = s.within; sorted = s.sorted; rest = s.rest }
 
 pub returns-in-Nothing : goal.returns-in-Nothing
 returns-in-Nothing c =
@@ -35,7 +37,7 @@ returns-in-Clock c =
 pub returns-in-EveryRow : goal.returns-in-EveryRow
 returns-in-EveryRow c =
     let b = c.args.self.now in
-    let e = c.edit-all.ensures in
+    let e = c.edit_all.ensures in
     let o = by_aim (board_view b) c.args.message.now (does c.hear-message.result) at_every_row c.hear-message.ensures c.in-EveryRow.ensures in
     record { answer = o.answer; effect = viewed_as b.clock _ _ _ _ e.used (ap board_kind e.size) ∙ o.effect }
 
@@ -44,7 +46,7 @@ returns-in-Row c =
     let b = c.args.self.now in
     let s = c.in-Row.symbol.now in
     let x = does c.hear-message.result in
-    let e = c.edit-one.ensures in
+    let e = c.edit_one.ensures in
     let o = by_aim (board_view b) c.args.message.now x (at_row s) c.hear-message.ensures c.in-Row.ensures in
     record {
       answer = e.answer ∙ o.answer;

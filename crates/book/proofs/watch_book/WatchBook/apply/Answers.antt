@@ -17,12 +17,12 @@ returns-in-EveryRow c =
     let o = on_every_row c.args.self.now c.args.message.now (does c.hear-message.result) c.hear-message.ensures _ c.in-EveryRow.ensures c.edit.ensures in
     record { answer = o.answer; effect = o.effect }
 
-pub returns-then-same-symbol : goal.returns-then-same-symbol
-returns-then-same-symbol c =
-    let o = on_own_row c.args.self.now c.args.message.now (does c.hear-message.result) c.hear-message.ensures c.in-Row.symbol.now _ c.in-Row.ensures c.if-same-symbol.ensures c.edit-or-make.ensures in
+pub returns-then-same_symbol : goal.returns-then-same_symbol
+returns-then-same_symbol c =
+    let o = on_own_row c.args.self.now c.args.message.now (does c.hear-message.result) c.hear-message.ensures c.in-Row.symbol.now _ c.in-Row.ensures c.if-same_symbol.ensures c.edit_or_make.ensures in
     record { answer = o.answer; effect = o.effect }
 
-pub returns-else-same-symbol : goal.returns-else-same-symbol
-returns-else-same-symbol c =
-    let o = on_other_row c.args.self.now c.args.message.now (does c.hear-message.result) c.hear-message.ensures c.in-Row.symbol.now c.in-Row.ensures c.if-same-symbol.ensures in
+pub returns-else-same_symbol : goal.returns-else-same_symbol
+returns-else-same_symbol c =
+    let o = on_other_row c.args.self.now c.args.message.now (does c.hear-message.result) c.hear-message.ensures c.in-Row.symbol.now c.in-Row.ensures c.if-same_symbol.ensures in
     record { answer = o.answer; effect = o.effect }

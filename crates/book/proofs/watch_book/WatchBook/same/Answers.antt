@@ -4,7 +4,7 @@ use Rattle.book.proofs.watch_book.WatchBook.same.Goals as goal
 
 pub returns : goal.returns
 returns c = record {
-  answer = same_follows c.args.self.now.row.symbol c.args.other.now.row.symbol c.same-symbol.result c.same-symbol.ensures;
+  answer = same_follows c.args.self.now.row.symbol c.args.other.now.row.symbol c.same_symbol.result c.same_symbol.ensures;
   unchanged = refl;
-  other-unchanged = refl;
+  other_unchanged = refl;
 }

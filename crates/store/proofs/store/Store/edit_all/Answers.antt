@@ -12,8 +12,8 @@ returns c =
     let f = edited (does c.args.message.now) in
     let long = length_mapped f n rows c.requires.within in
     record {
-      used = ap (take n) c.edit-rows.ensures ∙ take_at (map f (take n rows)) (drop n rows) n long;
-      spare = ap (drop n) c.edit-rows.ensures ∙ drop_at (map f (take n rows)) (drop n rows) n long;
+      used = ap (take n) c.edit_rows.ensures ∙ take_at (map f (take n rows)) (drop n rows) n long;
+      spare = ap (drop n) c.edit_rows.ensures ∙ drop_at (map f (take n rows)) (drop n rows) n long;
       count = refl;
-      size = c.edit-rows.auto.rows;
+      size = c.edit_rows.auto.rows;
     }

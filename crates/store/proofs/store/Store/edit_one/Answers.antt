@@ -32,10 +32,10 @@ returns-in-Ok c =
     let g = edited (does c.args.message.now) in
     record {
       answer = sym (ap not f);
-      used = used_found s g st.rows.now c.edit-at.new.rows st.count c.in-Ok.at c.requires.within c.requires.sorted e.place e.within c.edit-at.ensures ∙ sym (cond-false (full s st) _ _ f);
-      spare = spare_found g st.rows.now c.edit-at.new.rows st.count c.in-Ok.at e.within c.edit-at.ensures;
-      size = c.edit-at.auto.rows;
-      within = omega (arith, c.edit-at.auto.rows);
+      used = used_found s g st.rows.now c.edit_at.new.rows st.count c.in-Ok.at c.requires.within c.requires.sorted e.place e.within c.edit_at.ensures ∙ sym (cond-false (full s st) _ _ f);
+      spare = spare_found g st.rows.now c.edit_at.new.rows st.count c.in-Ok.at e.within c.edit_at.ensures;
+      size = c.edit_at.auto.rows;
+      within = omega (arith, c.edit_at.auto.rows);
       grows = omega arith;
     }
 
@@ -47,7 +47,7 @@ returns-else-count-self c =
     let there = missed s (used st) c.in-Err.at e.place in
     let f : full s st ≡ false = not_full_missed _ _ _ there.0 (omega (arith, length-take-le st.count st.rows.now c.requires.within)) in
     let g = edited (does c.args.message.now) in
-    let made = c.edit.ensures ∙ ap g c.new-row-row.ensures in
+    let made = c.edit.ensures ∙ ap g c.new_row-row.ensures in
     record {
       answer = sym (ap not f);
       used = used_made s g st.rows.now c.insert.new.rows st.count c.in-Err.at _ c.requires.within e.place e.within made c.insert.ensures ∙ sym (cond-false (full s st) _ _ f);
