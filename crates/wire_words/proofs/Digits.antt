@@ -1,5 +1,5 @@
 -- The digits and the sign of a number with decimal places. Assumes nothing.
-use Rattle.std.proofs.Common.{◌≡◌, ℕ, zero, suc, ◌+◌, ◌-◌, ◌/◌, ◌%◌, ◌^◌, ◌<◌, ◌++◌, ℤ, pos, negsuc, nat_abs, ◌<ℤ◌, codes, decimal, refl, ap, ◌∙◌, arith}
+use Rattle.std.proofs.Common.{◌≡◌, ℕ, zero, suc, ◌-◌, ◌/◌, ◌%◌, ◌^◌, ◌<◌, ◌++◌, ℤ, pos, negsuc, nat_abs, ◌<ℤ◌, codes, decimal, refl, ap, ◌∙◌, arith}
 use borrow.Author.Differences.{ints}
 use Rattle.std.proofs.lemmas.Fmt.{decimal_digit}
 use Rattle.wire_words.specs.Decimals.{last_digits, pointed, decimal_words}
