@@ -4,5 +4,5 @@
 mod score;
 mod trial;
 
-pub use score::Score;
+pub use score::{BadScore, Score};
 pub use trial::Bench;

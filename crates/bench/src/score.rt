@@ -1,29 +1,39 @@
 // How many vectors there were, and how many of them differ.
+ghost use Rattle.bench.specs.Scores.{counted};
 ghost use Rattle.std.specs.Prelude.{◌≡◌, ◌<◌, ◌≤◌, true, false, is_ok, if◌then◌else◌, ◌==◌, nat_lt};
 
+use std::error::Error;
 use std::fmt;
 
 /// How many vectors there were, and how many of them differ.
-#[derive(Clone, Copy)]
+#[derive(Clone, Copy, Default)]
 pub struct Score {
     vectors: u64,
     differ: u64,
 }
 
-impl Score {
-    /// No vector so far.
-    pub fn new() -> Score
-        ensures vectors { result.vectors ≡ 0 }
-        ensures differ { result.differ ≡ 0 }
-    {
-        Score {
-            vectors: 0,
-            differ: 0,
-        }
-    }
+/// Why a score will not do.
+#[derive(Clone, Copy, Debug, PartialEq, Eq)]
+pub enum BadScore {
+    NoVector,
+    Differs,
+}
 
+impl fmt::Display for BadScore {
+    fn fmt<W: fmt::Write>(&self, f: &mut fmt::Formatter<W>) -> fmt::Result {
+        f.write_str(match self {
+            BadScore::NoVector => "there was no vector",
+            BadScore::Differs => "not all is as expected",
+        })
+    }
+}
+
+impl Error for BadScore {}
+
+impl Score {
     /// One vector more. A difference is never forgotten.
     pub fn counted(self, differs: bool) -> Score
+        ensures value { result ≡ counted self differs }
         ensures vectors { 0 < result.vectors }
         ensures kept { self.differ ≤ result.differ }
         ensures noted { differs ≡ true → 0 < result.differ }
@@ -40,14 +50,14 @@ impl Score {
     }
 
     /// An error unless there was a vector and none differs.
-    pub fn verdict(self) -> Result<(), &'static str>
+    pub fn verdict(self) -> Result<(), BadScore>
         ensures { is_ok result ≡ (if nat_lt 0 self.vectors then (self.differ == 0) else false) }
     {
         if self.vectors == 0 {
-            return Err("there was no vector");
+            return Err(BadScore::NoVector);
         }
         if self.differ != 0 {
-            return Err("not all is as expected");
+            return Err(BadScore::Differs);
         }
         Ok(())
     }

@@ -1,5 +1,5 @@
 -- What a board and a watch mean, with the facts that the interface asks of every kind of book. Assumes nothing.
-use Rattle.std.specs.Prelude.{◌≡◌, ◌≤◌, Bool, true, false, List, [], ◌∷◌, length, refl}
+use Rattle.std.specs.Prelude.{◌≡◌, ◌≤◌, true, List, length, Some, None, Option, option_to_list, refl}
 use Rattle.std.proofs.Common.{arith, length-take}
 use Rattle.market.specs.Market.{Market, Kind, View, ascends}
 use Rattle.market.specs.declared.row.Row.{Row}
@@ -23,28 +23,23 @@ pub board_roomy : (b : Board) → 1 ≤ (board_view b).kind.capacity
 board_roomy b = b.some
 
 pub board_ordered : (b : Board) → ascends (board_view b).market.rows ≡ true
-board_ordered b = b.sorted
+board_ordered b = b.store.sorted
 
--- no row, or one
-abbrev pub inner : Bool → Row → List Row
-inner true r = r ∷ []
-inner false r = []
-
--- a watch shows its row while that is present
+-- a watch shows its row, if it has one
 abbrev pub watch_view : Watch → View Market Kind
-watch_view w = record { market = record { clock = w.clock; rows = inner w.present w.row }; kind = watch_kind w.row.symbol }
+watch_view w = record { market = record { clock = w.clock; rows = option_to_list w.row }; kind = watch_kind w.symbol }
 
-one_or_none : (p : Bool) (r : Row) → length (inner p r) ≤ 1
-one_or_none true r = omega arith
-one_or_none false r = omega arith
+one_or_none : (o : Option Row) → length (option_to_list o) ≤ 1
+one_or_none None = omega arith
+one_or_none (Some r) = omega arith
 
 pub watch_room : (w : Watch) → length (watch_view w).market.rows ≤ 1
-watch_room w = one_or_none w.present w.row
+watch_room w = one_or_none w.row
 
-one_ascends : (p : Bool) (r : Row) → ascends (inner p r) ≡ true
+one_ascends : (o : Option Row) → ascends (option_to_list o) ≡ true
 unfolding ascends
-one_ascends true r = refl
-one_ascends false r = refl
+one_ascends None = refl
+one_ascends (Some r) = refl
 
 pub watch_ordered : (w : Watch) → ascends (watch_view w).market.rows ≡ true
-watch_ordered w = one_ascends w.present w.row
+watch_ordered w = one_ascends w.row

@@ -1,8 +1,7 @@
 // A book on lent rows.
-ghost use Rattle.std.specs.Prelude.{◌≡◌, ◌-◌, ◌≤◌, true, replicate};
+ghost use Rattle.std.specs.Prelude.{◌≡◌, ◌-◌, ◌≤◌, replicate};
 ghost use Rattle.market.specs.Effects.{blank};
-ghost use Rattle.market.specs.Market.{ascends};
-ghost use Rattle.store.specs.Stores.{size, spare, used};
+ghost use Rattle.store.specs.Stores.{size, spare};
 
 use market::Clock;
 use store::Store;
@@ -14,7 +13,5 @@ pub struct Board<'a> {
     pub(crate) clock: Clock,
     ghost some: { 1 ≤ size store },
     ghost few: { size store ≤ 4096 },
-    ghost within: { store.count ≤ size store },
-    ghost sorted: { ascends (used store) ≡ true },
     ghost rest: { ∥ spare store ≡ replicate (size store - store.count) blank ∥₁ },
 }

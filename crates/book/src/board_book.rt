@@ -2,8 +2,8 @@
 ghost use Rattle.book.specs.Views.{board_ordered, board_room, board_roomy, board_view};
 
 use crate::board::Board;
-use crate::book::Book;
-use market::{Clock, Row, Target, hear, new_clock, target_of, tick};
+use crate::book::{Book, fill};
+use market::{Clock, Row, Target, hear};
 
 impl Book for Board<'_> {
     ghost view = { board_view };
@@ -15,17 +15,16 @@ impl Book for Board<'_> {
     ghost ordered = { board_ordered };
 
     fn empty(&mut self) {
-        let clock = new_clock();
         self.store.clear();
-        self.clock = clock;
+        self.clock = Clock::new();
     }
 
     fn apply(&mut self, message: &[u8]) -> bool {
         let message = hear(message);
-        match target_of(&message) {
+        match Target::of(&message) {
             Target::Nothing => true,
             Target::Clock => {
-                tick(&mut self.clock, &message);
+                self.clock.tick(&message);
                 true
             }
             Target::EveryRow => {
@@ -37,15 +36,15 @@ impl Book for Board<'_> {
     }
 
     fn find(&mut self, symbol: &[u8; 6], into: &mut Row) -> bool {
-        self.store.find(symbol, into)
+        fill(self.store.find(symbol), into)
     }
 
     fn row_at(&mut self, place: usize, into: &mut Row) -> bool {
-        self.store.row_at(place, into)
+        fill(self.store.row_at(place), into)
     }
 
     fn count(&mut self) -> usize {
-        self.store.count
+        self.store.count()
     }
 
     fn clock(&mut self) -> Clock {

@@ -1,5 +1,5 @@
 // What every kind of book shows.
-ghost use Rattle.std.specs.Prelude.{◌≡◌, ◌≤◌, true, not, length, is_some, Decides};
+ghost use Rattle.std.specs.Prelude.{◌≡◌, ◌≤◌, true, not, length, is_some, option_copied, Decides};
 ghost use Rattle.market.specs.Market.{Kind, Market, View, applied, ascends, full_for, lookup, start, with_market};
 ghost use Rattle.std.specs.Option.{unwrap_or};
 ghost use Rattle.std.specs.List.{slice_get};
@@ -7,6 +7,7 @@ ghost use Rattle.std.specs.List.{slice_get};
 use market::{Clock, Row};
 
 /// A book: a market, the symbols that it follows and how many rows it has room for, at least one. The last two never change.
+/// By a rule of the project a question takes the book for writing, and fills a row that the caller lends.
 pub trait Book {
     /// What the book means.
     ghost view: { Self → View Market Kind };
@@ -58,4 +59,18 @@ pub trait Book {
         ensures answer { Decides result ((view self.old).kind.follows ≡ (view other.old).kind.follows) }
         ensures unchanged { self.new ≡ self.old }
         ensures other_unchanged { other.new ≡ other.old };
+}
+
+/// Fills in the row that was found, if one was, and tells whether.
+pub(crate) fn fill(found: Option<&Row>, into: &mut Row) -> bool
+    ensures answer { result ≡ is_some found.entry }
+    ensures into { into.new ≡ unwrap_or (option_copied found.entry) into.old }
+{
+    match found {
+        Some(row) => {
+            *into = *row;
+            true
+        }
+        None => false,
+    }
 }

@@ -9,8 +9,8 @@ ghost use Rattle.std.specs.Result.{result_map_both};
 use crate::board::Board;
 use crate::refusal::BookRefusal;
 use crate::watch::Watch;
-use market::{Row, new_clock, new_row};
-use store::{Store, blank_rows};
+use market::{Clock, Row};
+use store::Store;
 use wire_fields::read_symbol;
 
 /// Rows that a board has at most.
@@ -35,10 +35,9 @@ impl<'a> Board<'a> {
         ensures view { board_view result ≡ empty_view (board_kind (length rows.old)) }
         ensures rows { lent_rows result ≡ replicate (length rows.old) blank }
     {
-        blank_rows(rows);
         Board {
-            store: Store { rows, count: 0 },
-            clock: new_clock(),
+            store: Store::new(rows),
+            clock: Clock::new(),
         }
     }
 }
@@ -48,13 +47,11 @@ impl Watch {
     pub fn new(symbol: &[u8; 6]) -> Result<Watch, BookRefusal>
         ensures { result_map_both watch_view told result ≡ watch_made symbol.now }
     {
-        match read_symbol(symbol, 0) {
-            Ok(_) => Ok(Watch {
-                row: new_row(symbol),
-                present: false,
-                clock: new_clock(),
-            }),
-            Err(flaw) => Err(BookRefusal::Symbol { byte: flaw.byte }),
-        }
+        read_symbol(symbol, 0).map_err(|flaw| BookRefusal::Symbol { byte: flaw.byte })?;
+        Ok(Watch {
+            symbol: *symbol,
+            row: None,
+            clock: Clock::new(),
+        })
     }
 }

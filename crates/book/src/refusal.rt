@@ -1,6 +1,9 @@
 // Why a book cannot be made.
-ghost use Rattle.book.specs.Refusals.{told};
-ghost use Rattle.std.specs.Prelude.{◌≡◌};
+ghost use Rattle.book.specs.Refusals.{refusal_words, told};
+ghost use Rattle.std.specs.Prelude.{◌≡◌, Some};
+
+use std::error::Error;
+use std::fmt;
 
 /// Why a book cannot be made; each case is a numbered refusal.
 #[derive(Clone, Copy, Debug, PartialEq, Eq)]
@@ -22,3 +25,18 @@ impl BookRefusal {
         }
     }
 }
+
+/// The number, and the byte where a symbol is at fault.
+impl fmt::Display for BookRefusal {
+    ghost output = { λ x. Some (refusal_words x) };
+
+    fn fmt<W: fmt::Write>(&self, f: &mut fmt::Formatter<W>) -> fmt::Result {
+        let number = self.number();
+        match self {
+            BookRefusal::RowCount => write!(f, "refused {number}"),
+            BookRefusal::Symbol { byte } => write!(f, "refused {number} byte {byte}"),
+        }
+    }
+}
+
+impl Error for BookRefusal {}

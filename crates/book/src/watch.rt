@@ -1,11 +1,14 @@
 // A book of one row.
+ghost use Rattle.std.specs.Prelude.{◌≡◌};
+ghost use Rattle.std.specs.Option.{ForSome};
+
 use market::{Clock, Row};
 
 /// A book that follows one symbol, with a row of its own.
 #[derive(Drop)]
 pub struct Watch {
-    /// Goes by the symbol that is followed. What else it holds counts only while the row is present.
-    pub(crate) row: Row,
-    pub(crate) present: bool,
+    pub(crate) symbol: [u8; 6],
+    pub(crate) row: Option<Row>,
     pub(crate) clock: Clock,
+    ghost own: { ForSome row (λ r. r.symbol ≡ symbol) },
 }

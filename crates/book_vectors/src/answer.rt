@@ -1,7 +1,7 @@
 // What a book answers, as lines.
 use crate::command::Question;
 use book::Book;
-use market::new_row;
+use market::Row;
 use row_lines::{ClockLine, RowLine};
 use std::alloc::{AllocError, Global};
 
@@ -20,26 +20,25 @@ pub fn answer<B: Book>(
             let fits = book.apply(message.as_slice());
             String::from_str(heap, if fits { "applied\n" } else { "full\n" })
         }
-        Question::Find { symbol } => find(heap, book, &symbol),
+        Question::Find { symbol } => {
+            let mut row = Row::blank();
+            row_line(heap, book.find(&symbol, &mut row).then_some(&row))
+        }
         Question::Row { place } => row_at(heap, book, place),
         Question::Show => show(heap, book),
     }
 }
 
-fn find<B: Book>(heap: Global, book: &mut B, symbol: &[u8; 6]) -> Result<String, AllocError> {
-    let mut row = new_row(symbol);
-    if !book.find(symbol, &mut row) {
-        return String::from_str(heap, "none\n");
-    }
-    format!(in heap; "{}\n", RowLine(&row))
+fn row_at<B: Book>(heap: Global, book: &mut B, place: usize) -> Result<String, AllocError> {
+    let mut row = Row::blank();
+    row_line(heap, book.row_at(place, &mut row).then_some(&row))
 }
 
-fn row_at<B: Book>(heap: Global, book: &mut B, place: usize) -> Result<String, AllocError> {
-    let mut row = new_row(&[b' '; 6]);
-    if !book.row_at(place, &mut row) {
-        return String::from_str(heap, "none\n");
+fn row_line(heap: Global, row: Option<&Row>) -> Result<String, AllocError> {
+    match row {
+        Some(row) => format!(in heap; "{}\n", RowLine(row)),
+        None => String::from_str(heap, "none\n"),
     }
-    format!(in heap; "{}\n", RowLine(&row))
 }
 
 /// The clock, how many rows there are, and each of them.
@@ -48,8 +47,7 @@ fn show<B: Book>(heap: Global, book: &mut B) -> Result<String, AllocError> {
     let count = book.count();
     let mut text = format!(in heap; "{}\nrows {count}\n", ClockLine(clock))?;
     for place in 0..count {
-        let line = row_at(heap, book, place)?;
-        text.push_str(line.as_str())?;
+        text.push_str(row_at(heap, book, place)?.as_str())?;
     }
     Ok(text)
 }

@@ -76,20 +76,15 @@ fn parse_count(digits: &str) -> Result<usize, BadCommand> {
     parse_number(digits)
 }
 
+/// A number in digits alone, where `parse` would take a sign.
 fn parse_number(digits: &str) -> Result<usize, BadCommand> {
     if digits.starts_with('+') {
         return Err(BadCommand::NotUnderstood);
     }
-    match digits.parse::<usize>() {
-        Ok(number) => Ok(number),
-        Err(_) => Err(BadCommand::NotUnderstood),
-    }
+    digits.parse().map_err(|_| BadCommand::NotUnderstood)
 }
 
 fn parse_symbol(heap: Global, hex: &str) -> Result<[u8; 6], BadCommand> {
     let bytes = bytes_of_hex(heap, hex.as_bytes())?;
-    match bytes.as_slice() {
-        [a, b, c, d, e, f] => Ok([*a, *b, *c, *d, *e, *f]),
-        _ => Err(BadCommand::NotUnderstood),
-    }
+    <[u8; 6]>::try_from(bytes.as_slice()).map_err(|_| BadCommand::NotUnderstood)
 }

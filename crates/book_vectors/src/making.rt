@@ -2,7 +2,7 @@
 ghost use Rattle.std.specs.Prelude.{◌≤◌, vec_len};
 
 use book::{BookRefusal, Watch, check_rows};
-use market::{Row, new_row};
+use market::Row;
 use std::alloc::{AllocError, Global};
 
 /// A book to make.
@@ -27,26 +27,34 @@ pub enum Made {
     Watch(Watch),
 }
 
+/// Why a book is not made.
+#[derive(Debug, Drop)]
+pub enum NotMade {
+    Memory(AllocError),
+    Refused(BookRefusal),
+}
+
+impl From<AllocError> for NotMade {
+    fn from(e: AllocError) -> NotMade {
+        NotMade::Memory(e)
+    }
+}
+
+impl From<BookRefusal> for NotMade {
+    fn from(refusal: BookRefusal) -> NotMade {
+        NotMade::Refused(refusal)
+    }
+}
+
 impl Making {
-    pub fn make(self, heap: Global) -> Result<Result<Made, BookRefusal>, AllocError> {
+    pub fn make(self, heap: Global) -> Result<Made, NotMade> {
         match self {
-            Making::Board { rows } => make_rows(heap, rows),
-            Making::Watch { symbol } => Ok(make_watch(&symbol)),
+            Making::Board { rows } => {
+                let rows = vec![in heap; Row::blank(); rows]?;
+                check_rows(rows.as_slice())?;
+                Ok(Made::Board(Rows { rows }))
+            }
+            Making::Watch { symbol } => Ok(Made::Watch(Watch::new(&symbol)?)),
         }
-    }
-}
-
-fn make_rows(heap: Global, count: usize) -> Result<Result<Made, BookRefusal>, AllocError> {
-    let rows = vec![in heap; new_row(&[b' '; 6]); count]?;
-    match check_rows(rows.as_slice()) {
-        Ok(()) => Ok(Ok(Made::Board(Rows { rows }))),
-        Err(refusal) => Ok(Err(refusal)),
-    }
-}
-
-fn make_watch(symbol: &[u8; 6]) -> Result<Made, BookRefusal> {
-    match Watch::new(symbol) {
-        Ok(watch) => Ok(Made::Watch(watch)),
-        Err(refusal) => Err(refusal),
     }
 }

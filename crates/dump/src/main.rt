@@ -5,11 +5,9 @@ mod log;
 
 use crate::log::Log;
 use anyhow::anyhow;
-use std::io::{BufRead, BufReader, Read};
-use std::{env, fs};
-
-/// How much text is collected before it is printed.
-const PIECE: usize = 65536;
+use recording::Recording;
+use std::io::{BufRead, BufReader, BufWriter, Read};
+use std::{env, fs, io};
 
 fn main(rt: HostRuntime) -> anyhow::Result<()> {
     run(&rt)
@@ -24,28 +22,18 @@ fn run(rt: &HostRuntime) -> anyhow::Result<()> {
     let Some(path) = file else {
         return dump(rt, rt.stdin());
     };
-    match fs::open(rt, path.as_str()) {
-        Ok(file) => dump(rt, file),
-        Err(e) => Err(anyhow!(format!(in rt.alloc(); "{path}: {e}")?)),
-    }
+    let file = fs::open(rt, path.as_str()).map_err(|e| anyhow!("{path}: {e}"))?;
+    dump(rt, file)
 }
 
 fn dump<R: Read + Drop>(rt: &HostRuntime, input: R) -> anyhow::Result<()> {
-    let mut input = BufReader::new(rt.alloc(), input)?;
-    let mut log = Log::new(rt.alloc());
-    let mut line = Vec::new(rt.alloc());
-    for number in 1..u64::MAX {
-        line.clear();
-        if input.read_until(b'\n', &mut line)? == 0 {
-            break;
-        }
-        log.add_line(number, line.as_slice())?;
-        if log.text().len() >= PIECE {
-            rt.print(log.text())?;
-            log.clear();
-        }
+    let input = BufReader::new(rt.alloc(), input)?;
+    let out = BufWriter::new(rt.alloc(), io::writer(rt))?;
+    let mut recording = Recording::new(rt.alloc());
+    let mut log = Log::new(rt.alloc(), out);
+    for (number, line) in (1..u64::MAX).zip(input.split(rt.alloc(), b'\n')) {
+        recording.add_line(&mut log, number, line?.as_slice())?;
     }
-    rt.print(log.text())?;
-    rt.println(log.total())?;
+    log.close()?;
     Ok(())
 }

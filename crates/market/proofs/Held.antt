@@ -1,5 +1,5 @@
 -- The laws of specs/Laws.
-use Rattle.std.proofs.Common.{◌≡◌, ℕ, zero, suc, Bool, true, false, cond, not, ◌&&◌, leb, List, [], ◌∷◌, length, Some, None, Option, sym, refl, ap, ◌∙◌, subst, ⊎_elim, arith}
+use Rattle.std.proofs.Common.{◌≡◌, ℕ, zero, suc, Bool, true, false, cond, not, ◌&&◌, leb, List, [], ◌∷◌, length, Some, None, Option, sym, refl, ap, ◌∙◌, subst, ⊎_elim}
 use Rattle.std.proofs.lemmas.Bool.{and_right, and_left, cond-true, cond-false}
 use Rattle.std.specs.List.{slice_get}
 use Rattle.market.specs.Effects.{Change, quotes, settlement, limits, definition, changed, cleared, Effect, nothing, clock, clear, row, edited}
@@ -113,7 +113,7 @@ first s r rs e none = (e, (0, record { is = refl; alone = alone }))
     alone (suc j) q is h = absurd (none j q is h)
 
 pub finds_exactly : FindsExactly
-finds_exactly s [] up = subst (Found s []) (sym (look_none s)) (λ i q is e. let z : ◌≡◌ {A = ℕ} 0 1 = cc in omega arith)
+finds_exactly s [] up = subst (Found s []) (sym (look_none s)) (λ i q is e. cc)
 finds_exactly s (r ∷ rs) up =
     let more = finds_exactly s rs (rest_ascends r rs up) in
     ⊎_elim

@@ -1,5 +1,4 @@
 pub mod Orders
-mod Packs
 pub mod Rows
 pub mod Held
 pub mod Applied

@@ -1,24 +1,10 @@
 -- The order of symbols is a strict total order, on lists of bytes of any length.
-use Rattle.std.proofs.Common.{◌≡◌, ℕ, ◌<◌, true, false, ◌⊎◌, List, ◌∷◌, Ordering, Less, Equal, Greater, sym, refl, ap, ◌∙◌, inl, inr, arith}
+use Rattle.std.proofs.Common.{◌≡◌, ℕ, true, false, ◌⊎◌, List, Ordering, Less, Equal, Greater, sym, refl, ap, ◌∙◌, inl, inr}
 use Rattle.std.proofs.lemmas.Map.Lookups.{exact_bytes}
 use Rattle.std.proofs.lemmas.Cmp.{nat_list_cmp_total}
-use Rattle.std.specs.Cmp.{nat_cmp_is}
-use Rattle.std.specs.Cmp.Lexicographic.{slice_cmp}
-use Rattle.std.specs.Ordering.{is_eq, is_lt, ordering_reverse, ordering_then, nat_cmp}
+use Rattle.std.specs.Cmp.{Equal-is}
+use Rattle.std.specs.Ordering.{is_eq, is_lt, ordering_reverse}
 use Rattle.market.specs.Symbols.{against, precedes, same}
-
--- the first bytes decide, unless they are the same
-pub head_less : (a b : ℕ) (s t : List ℕ) → a < b → against (a ∷ s) (b ∷ t) ≡ Less
-unfolding against
-head_less a b s t h = ap (λ o. ordering_then o (slice_cmp nat_cmp s t)) (sym (nat_cmp_is a b Less h))
-
-pub head_greater : (a b : ℕ) (s t : List ℕ) → b < a → against (a ∷ s) (b ∷ t) ≡ Greater
-unfolding against
-head_greater a b s t h = ap (λ o. ordering_then o (slice_cmp nat_cmp s t)) (sym (nat_cmp_is a b Greater h))
-
-pub head_same : (a b : ℕ) (s t : List ℕ) → a ≡ b → against (a ∷ s) (b ∷ t) ≡ against s t
-unfolding against
-head_same a b s t h = ap (λ o. ordering_then o (slice_cmp nat_cmp s t)) (sym (nat_cmp_is a b Equal h))
 
 -- ---- the laws of the order
 
@@ -55,10 +41,10 @@ order s t =
     which (against s t) refl
 
 pub less_apart : (s t : List ℕ) → against s t ≡ Less → s ≡ t → ⊥
-less_apart s t h e = let own : against s t ≡ Equal = ap (against s) (sym e) ∙ against_self s in let z : ◌≡◌ {A = ℕ} 0 1 = cc in omega arith
+less_apart s t h e = let own : against s t ≡ Equal = ap (against s) (sym e) ∙ against_self s in cc
 
 pub higher_apart : (s t : List ℕ) → against s t ≡ Greater → s ≡ t → ⊥
-higher_apart s t h e = let own : against s t ≡ Equal = ap (against s) (sym e) ∙ against_self s in let z : ◌≡◌ {A = ℕ} 0 1 = cc in omega arith
+higher_apart s t h e = let own : against s t ≡ Equal = ap (against s) (sym e) ∙ against_self s in cc
 
 pub apart_or_same : (s t : List ℕ) → (s ≡ t) ⊎ (s ≡ t → ⊥)
 apart_or_same s t =
@@ -72,13 +58,8 @@ apart_or_same s t =
 
 less_since : (o : Ordering) → is_lt o ≡ true → o ≡ Less
 less_since Less e = refl
-less_since Equal e = grind arith
-less_since Greater e = grind arith
-
-equal_since : (o : Ordering) → is_eq o ≡ true → o ≡ Equal
-equal_since Less e = grind arith
-equal_since Equal e = refl
-equal_since Greater e = grind arith
+less_since Equal e = cc
+less_since Greater e = cc
 
 pub precedes_less : (s t : List ℕ) → precedes s t ≡ true → against s t ≡ Less
 precedes_less s t e = less_since (against s t) e
@@ -87,7 +68,7 @@ pub less_precedes : (s t : List ℕ) → against s t ≡ Less → precedes s t �
 less_precedes s t e = ap is_lt e
 
 pub same_is : (s t : List ℕ) → same s t ≡ true → s ≡ t
-same_is s t e = against_equal s t (equal_since (against s t) e)
+same_is s t e = against_equal s t ((Equal-is (against s t)).0 e)
 
 pub same_from : (s t : List ℕ) → s ≡ t → same s t ≡ true
 same_from s t e = ap (λ u. is_eq (against s u)) (sym e) ∙ ap is_eq (against_self s)

@@ -2,8 +2,8 @@
 use Rattle.wire_types.specs.Records.{meaning}
 use Rattle.wire_types.specs.declared.message.Message.{Message}
 use Rattle.market.specs.Effects.{Effect, effect, Aim, at_nothing, at_clock, at_every_row, at_row}
-use Rattle.market.specs.declared.effect.Target.{Target}
-use Rattle.market.specs.declared.effect.Target.TheVariants as the_target
+use Rattle.market.specs.declared.aim.Target.{Target}
+use Rattle.market.specs.declared.aim.Target.TheVariants as the_target
 
 abbrev pub does : Message → Effect
 does x = effect (meaning x)

@@ -9,13 +9,13 @@ use Rattle.wire_types.specs.declared.code.Side.{Side}
 use Rattle.wire_types.specs.declared.code.Side.TheVariants.{Bid, Ask}
 use Rattle.wire_types.specs.declared.code.Status.{Status}
 use Rattle.wire_types.specs.declared.code.Status.TheVariants.{Suspended}
+use Rattle.wire_types.specs.declared.instrument.Leg.{Leg}
 use Rattle.wire_types.specs.declared.message.Time.{Time}
 use Rattle.wire_types.specs.declared.message.TimeReference.{TimeReference}
 use Rattle.wire_types.specs.declared.quote.LastTrade.{LastTrade}
 use Rattle.wire_types.specs.declared.quote.Quote.{Quote}
 use Rattle.market.specs.declared.clock.Clock.{Clock}
 use Rattle.market.specs.declared.row.Definition.{Definition}
-use Rattle.market.specs.declared.row.Leg.{Leg}
 use Rattle.market.specs.declared.row.Limits.{Limits}
 use Rattle.market.specs.declared.row.Quotes.{Quotes}
 use Rattle.market.specs.declared.row.Row.{Row}

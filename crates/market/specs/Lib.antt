@@ -1,7 +1,7 @@
 pub mod Symbols
-pub mod Packed
 pub mod Effects
 pub mod Aims
 pub mod Market
 pub mod Laws
+pub mod Legs
 pub mod Examples

@@ -1,14 +1,17 @@
 // A market: a clock, rows, and what a message does to them.
 #![tactic(auto)]
 
+mod aim;
 mod clock;
-mod effect;
+mod kept;
 mod laws;
+mod legs;
 mod row;
 mod symbol;
 
+pub use aim::{Target, hear};
 pub use clock::Clock;
-pub use effect::{Target, edit, hear, new_clock, new_row, target_of, tick};
 pub use laws::{examples_hold, laws_hold};
-pub use row::{Definition, Leg, Limits, Quotes, Row, Settlement};
+pub use row::{Definition, Limits, Quotes, Row, Settlement};
 pub use symbol::comes_before;
+pub use wire_types::Leg;

@@ -33,5 +33,5 @@ taken_in carrier unit block v = after_check carrier (checked_for carrier unit bl
 
 -- a block that was played, with no message declined, gives the fold of its messages
 abbrev pub Folds : Option Played → List ℕ → View Market Kind → View Market Kind → Type 0
-Folds (Some p) block v w = p.declined ≡ 0 → w ≡ unbounded v (messages_of block)
+Folds (Some p) block v w = p.declined ≡ None → w ≡ unbounded v (messages_of block)
 Folds None block v w = w ≡ v

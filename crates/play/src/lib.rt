@@ -4,5 +4,5 @@
 mod block;
 mod taking;
 
-pub use block::Played;
+pub use block::{Declined, Played};
 pub use taking::{Taken, take_block};

@@ -57,3 +57,10 @@ Parsed due (Ok l) = due ≡ Ok (line_meaning l)
 Parsed due (Err Memory) = Unit {0}
 Parsed due (Err NoHex) = due ≡ Err NoHex
 Parsed due (Err NoUnit) = due ≡ Err NoUnit
+
+-- the unit of the blocks to come; a line that is not understood leaves it
+abbrev pub unit_after : Result Said BadLine → Option ℕ → Option ℕ
+unit_after (Ok nothing) unit = unit
+unit_after (Ok (of_unit n)) unit = Some n
+unit_after (Ok (block carrier bytes)) unit = unit
+unit_after (Err bad) unit = unit

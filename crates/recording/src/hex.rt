@@ -3,7 +3,7 @@ ghost use Rattle.recording.specs.Hex.{nibble_of, pair_of, Decodes};
 ghost use Rattle.std.specs.Prelude.{◌≡◌, ◌<◌, IfSome};
 
 use crate::line::BadLine;
-use crate::text::is_blank;
+use crate::text::skip_blanks;
 use std::alloc::Global;
 
 /// The value of a hex digit of either case.
@@ -24,20 +24,13 @@ pub fn bytes_of_hex(heap: Global, text: &[u8]) -> Result<Vec<u8>, BadLine>
     ensures { Decodes text.now result }
 {
     let mut bytes = Vec::new(heap);
-    let mut rest = text;
-    while let Some((first, tail)) = rest.split_first() {
-        if is_blank(*first) {
-            rest = tail;
-            continue;
-        }
-        let Some((second, tail)) = tail.split_first() else {
-            return Err(BadLine::NoHex);
-        };
-        let Some(byte) = pair(*first, *second) else {
-            return Err(BadLine::NoHex);
-        };
-        bytes.push(byte)?;
-        rest = tail;
+    let mut rest = skip_blanks(text);
+    while let [first, second, tail @ ..] = rest {
+        bytes.push(pair(*first, *second).ok_or(BadLine::NoHex)?)?;
+        rest = skip_blanks(tail);
+    }
+    if !rest.is_empty() {
+        return Err(BadLine::NoHex);
     }
     Ok(bytes)
 }
@@ -45,8 +38,5 @@ pub fn bytes_of_hex(heap: Global, text: &[u8]) -> Result<Vec<u8>, BadLine>
 fn pair(high: u8, low: u8) -> Option<u8>
     ensures { result ≡ pair_of (nibble_of high) (nibble_of low) }
 {
-    match (nibble(high), nibble(low)) {
-        (Some(h), Some(l)) => Some(h * 16 + l),
-        _ => None,
-    }
+    Some(nibble(high)? * 16 + nibble(low)?)
 }

@@ -3,8 +3,12 @@
 
 mod hex;
 mod line;
+mod listening;
+mod tally;
 mod text;
 mod unit;
 
 pub use hex::{bytes_of_hex, nibble};
 pub use line::{BadLine, Line, parse_line};
+pub use listening::{Heard, Listener, Recording};
+pub use tally::Tally;

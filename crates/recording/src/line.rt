@@ -82,26 +82,18 @@ pub fn parse_line(heap: Global, line: &[u8]) -> Result<Line, BadLine>
 fn is_remark(text: &[u8]) -> bool
     ensures { result ≡ remark text.now }
 {
-    match text.first() {
-        Some(b) => *b == b'#',
-        None => true,
-    }
+    text.first().is_none_or(|b| *b == b'#')
 }
 
 fn parse_unit(text: &[u8]) -> Result<Line, BadLine>
     ensures { Parsed (unit_line (unit_number text.now)) result }
 {
-    match unit_number(text) {
-        Some(unit) => Ok(Line::Unit(unit)),
-        None => Err(BadLine::NoUnit),
-    }
+    unit_number(text).map(Line::Unit).ok_or(BadLine::NoUnit)
 }
 
 fn parse_block(heap: Global, carrier: Carrier, text: &[u8]) -> Result<Line, BadLine>
     ensures { Parsed (block_line carrier (hex_bytes text.now)) result }
 {
-    match bytes_of_hex(heap, text) {
-        Ok(bytes) => Ok(Line::Block { carrier, bytes }),
-        Err(bad) => Err(bad),
-    }
+    let bytes = bytes_of_hex(heap, text)?;
+    Ok(Line::Block { carrier, bytes })
 }

@@ -1,56 +1,42 @@
 // Words and the blanks between them.
-ghost use Rattle.recording.specs.Text.{blank, unblanked, behind_word, word_ends};
+ghost use Rattle.recording.specs.Text.{blank, unblanked, behind_word, word_ends, word_len};
 ghost use Rattle.std.specs.Option.{option_map};
-ghost use Rattle.std.specs.Prelude.{◌≡◌};
+ghost use Rattle.std.specs.Prelude.{◌≡◌, take, drop};
 
 /// Whether a byte stands between words: a space, a tab, or the end of a line.
 pub(crate) fn is_blank(b: u8) -> bool
     ensures { result ≡ blank b }
 {
-    b == b' ' || b == b'\t' || b == b'\r' || b == b'\n'
+    matches!(b, b' ' | b'\t' | b'\r' | b'\n')
 }
 
 /// The text behind the blanks in front of it.
 pub(crate) fn skip_blanks(text: &[u8]) -> &[u8]
     ensures { result.now ≡ unblanked text.now }
 {
-    let mut rest = text;
-    while let Some((first, tail)) = rest.split_first() {
-        if !is_blank(*first) {
-            break;
-        }
-        rest = tail;
-    }
-    rest
+    let start = text.iter().position(|b| !is_blank(*b));
+    &text[start.unwrap_or(text.len())..]
+}
+
+/// The word that a text begins with, up to a blank or the end, and what stands behind it.
+pub(crate) fn split_word(text: &[u8]) -> (&[u8], &[u8])
+    ensures word { result.0.now ≡ take (word_len text.now) text.now }
+    ensures rest { result.1.now ≡ drop (word_len text.now) text.now }
+{
+    let end = text.iter().position(|b| is_blank(*b));
+    text.split_at(end.unwrap_or(text.len()))
 }
 
 /// What stands behind a word that the text begins with, where the word ends there.
 pub(crate) fn behind_word<'a>(word: &[u8], text: &'a [u8]) -> Option<&'a [u8]>
     ensures { option_map (λ x. x.now) result ≡ behind_word word.now text.now }
 {
-    let mut word = word;
-    let mut rest = text;
-    while let Some((letter, letters)) = word.split_first() {
-        let Some((first, tail)) = rest.split_first() else {
-            return None;
-        };
-        if *first != *letter {
-            return None;
-        }
-        word = letters;
-        rest = tail;
-    }
-    if !ends_word(rest) {
-        return None;
-    }
-    Some(rest)
+    let rest = text.strip_prefix(word)?;
+    ends_word(rest).then_some(rest)
 }
 
 fn ends_word(rest: &[u8]) -> bool
     ensures { result ≡ word_ends rest.now }
 {
-    match rest.first() {
-        Some(b) => is_blank(*b),
-        None => true,
-    }
+    rest.first().is_none_or(|b| is_blank(*b))
 }

@@ -1,53 +1,39 @@
 // The number of a unit in decimal digits.
 ghost use Rattle.std.specs.Prelude.{◌≡◌, ◌<◌, IfSome};
-ghost use Rattle.recording.specs.Units.{unit_number, more_digits, appended_digit, digit_of};
+ghost use Rattle.recording.specs.Units.{unit_number, digits_number, appended_digit, digit_of};
 
-use crate::text::{is_blank, skip_blanks};
+use crate::text::{skip_blanks, split_word};
 
 /// The number from 0 to 255 that the text writes in digits, with blanks around it.
 pub(crate) fn unit_number(text: &[u8]) -> Option<u8>
     ensures { result ≡ unit_number text.now }
 {
-    let digits = skip_blanks(text);
-    let (first, rest) = digits.split_first()?;
-    more_digits(digit(*first)?, rest)
+    let (digits, rest) = split_word(skip_blanks(text));
+    if digits.is_empty() || !skip_blanks(rest).is_empty() {
+        return None;
+    }
+    digits_number(digits)
 }
 
-fn more_digits(number: u8, text: &[u8]) -> Option<u8>
-    ensures { result ≡ more_digits number text.now }
+fn digits_number(digits: &[u8]) -> Option<u8>
+    ensures { result ≡ digits_number 0 digits.now }
 {
-    let mut number = number;
-    let mut rest = text;
-    while let Some((first, tail)) = rest.split_first() {
-        if is_blank(*first) {
-            return if skip_blanks(tail).is_empty() {
-                Some(number)
-            } else {
-                None
-            };
-        }
-        number = appended(number, *first)?;
-        rest = tail;
+    let mut number = 0u8;
+    for digit in digits {
+        number = appended(number, *digit)?;
     }
     Some(number)
 }
 
-fn appended(number: u8, b: u8) -> Option<u8>
-    ensures { result ≡ appended_digit number (digit_of b) }
+fn appended(number: u8, digit: u8) -> Option<u8>
+    ensures { result ≡ appended_digit number (digit_of digit) }
 {
-    let value = number as u16 * 10 + digit(b)? as u16;
-    if value > 255 {
-        return None;
-    }
-    Some(value as u8)
+    number.checked_mul(10)?.checked_add(digit_value(digit)?)
 }
 
-fn digit(b: u8) -> Option<u8>
-    ensures value { result ≡ digit_of b }
+fn digit_value(digit: u8) -> Option<u8>
+    ensures value { result ≡ digit_of digit }
     ensures small { IfSome result (λ d. d < 10) }
 {
-    match b {
-        b'0'..=b'9' => Some(b - b'0'),
-        _ => None,
-    }
+    digit.checked_sub(b'0').filter(|value| *value < 10)
 }

@@ -1,7 +1,8 @@
 -- What an instrument is, as text. Assumes nothing.
-use Rattle.std.specs.Prelude.{ℕ, ◌+◌, List, [], ◌++◌, Some, None, codes, decimal, Option, slice_index_or}
+use Rattle.std.specs.Prelude.{ℕ, List, [], ◌++◌, Some, None, codes, decimal, Option, slice_index_or}
+use Rattle.market.specs.Legs.{leg_count}
 use Rattle.market.specs.declared.row.Definition.{Definition}
-use Rattle.market.specs.declared.row.Leg.{Leg}
+use Rattle.wire_types.specs.declared.instrument.Leg.{Leg}
 use Rattle.row_lines.specs.Codes.{listing_letter}
 use Rattle.row_lines.specs.Hex.{hex_symbol}
 use Rattle.std.specs.Fmt.{signed_decimal}
@@ -11,17 +12,12 @@ abbrev pub leg_part : Option Leg → List ℕ
 leg_part None = []
 leg_part (Some l) = codes " " ++ (signed_decimal l.ratio ++ (codes " " ++ hex_symbol l.symbol))
 
-abbrev pub one : Option Leg → ℕ
-one None = 0
-one (Some l) = 1
-
-abbrev pub leg_count : List (Option Leg) → ℕ
-leg_count ls = one (slice_index_or ls 0 None) + one (slice_index_or ls 1 None) + one (slice_index_or ls 2 None) + one (slice_index_or ls 3 None)
+abbrev pub each_leg : List (Option Leg) → List ℕ
+each_leg ls = leg_part (slice_index_or ls 0 None) ++ (leg_part (slice_index_or ls 1 None) ++ (leg_part (slice_index_or ls 2 None) ++ leg_part (slice_index_or ls 3 None)))
 
 -- COUNT and each leg
 abbrev pub legs_part : List (Option Leg) → List ℕ
-legs_part ls =
-    decimal (leg_count ls) ++ (leg_part (slice_index_or ls 0 None) ++ (leg_part (slice_index_or ls 1 None) ++ (leg_part (slice_index_or ls 2 None) ++ leg_part (slice_index_or ls 3 None))))
+legs_part ls = decimal (leg_count ls) ++ each_leg ls
 
 -- FLAGS EXPIRATION SIZE LISTING INCREMENT CONTRACTDATE
 abbrev pub terms_part : Definition → List ℕ

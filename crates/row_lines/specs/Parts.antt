@@ -4,7 +4,7 @@ use Rattle.market.specs.declared.row.Limits.{Limits}
 use Rattle.market.specs.declared.row.Quotes.{Quotes}
 use Rattle.market.specs.declared.row.Settlement.{Settlement}
 use Rattle.row_lines.specs.Codes.{condition_letter, issue_letter, status_letter}
-use Rattle.row_lines.specs.Hex.{hex_byte}
+use Rattle.wire_words.specs.Bytes.{hex_byte}
 use Rattle.std.specs.Fmt.{signed_decimal}
 use Rattle.wire_types.specs.declared.quote.LastTrade.{LastTrade}
 use Rattle.wire_types.specs.declared.quote.Quote.{Quote}

@@ -1,52 +1,18 @@
 // Codes by the letters that the feed has for them.
-ghost use Rattle.row_lines.specs.Codes.{status_letter, issue_letter, listing_letter, condition_letter};
-ghost use Rattle.std.specs.Prelude.{◌≡◌};
+ghost use Rattle.row_lines.specs.Codes.{letter};
+ghost use Rattle.std.specs.Prelude.{Some};
 
-use wire_types::{Condition, Issue, Listing, Status};
+use std::fmt;
+use wire_types::Code;
 
-pub(crate) fn status_letter(status: Status) -> &'static str
-    ensures { result.now ≡ status_letter status }
-{
-    match status {
-        Status::Suspended => "S",
-        Status::Queuing => "Q",
-        Status::Trading => "T",
-        Status::Halted => "H",
-    }
-}
+/// A code by the character of its byte.
+#[derive(Clone, Copy)]
+pub(crate) struct CodeLetter<C>(pub(crate) C);
 
-pub(crate) fn issue_letter(issue: Issue) -> &'static str
-    ensures { result.now ≡ issue_letter issue }
-{
-    match issue {
-        Issue::Periodic => "i",
-        Issue::Indicative => "I",
-        Issue::Initial => "S",
-        Issue::Reissued => "R",
-    }
-}
+impl<C: Code> fmt::Display for CodeLetter<C> {
+    ghost output = { λ x. Some (letter (C.byte_of x.0)) };
 
-pub(crate) fn listing_letter(listing: Listing) -> &'static str
-    ensures { result.now ≡ listing_letter listing }
-{
-    match listing {
-        Listing::Active => "A",
-        Listing::Inactive => "I",
-        Listing::Test => "T",
-    }
-}
-
-/// The byte itself, since a normal trade has a space.
-pub(crate) fn condition_letter(condition: Condition) -> u8
-    ensures { result ≡ condition_letter condition }
-{
-    match condition {
-        Condition::Normal => b' ',
-        Condition::Opening => b'O',
-        Condition::Spread => b'S',
-        Condition::Block => b'B',
-        Condition::Ecrp => b'E',
-        Condition::Break => b'X',
-        Condition::Derived => b'D',
+    fn fmt<W: fmt::Write>(&self, f: &mut fmt::Formatter<W>) -> fmt::Result {
+        f.write_char(char::from(self.0.byte()))
     }
 }

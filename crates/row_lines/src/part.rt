@@ -1,41 +1,35 @@
-// The settlement and the limits as parts of a row's line. A dash stands where there is none.
+// The settlement and the limits as parts of a row's line.
 ghost use Rattle.row_lines.specs.Parts.{settlement_part, limits_part};
 ghost use Rattle.std.specs.Prelude.{Some};
 
-use crate::code::issue_letter;
+use crate::code::CodeLetter;
 use market::{Limits, Settlement};
 use std::fmt;
 
 #[derive(Clone, Copy)]
-pub(crate) struct SettlementPart(pub(crate) Option<Settlement>);
+pub(crate) struct SettlementPart(pub(crate) Settlement);
 
 impl fmt::Display for SettlementPart {
-    ghost output = { λ x. Some (settlement_part x.0) };
+    ghost output = { λ x. Some (settlement_part (Some x.0)) };
 
     fn fmt<W: fmt::Write>(&self, f: &mut fmt::Formatter<W>) -> fmt::Result {
-        match self.0 {
-            Some(settlement) => write!(
-                f,
-                "{} {} {}",
-                settlement.trade_date,
-                settlement.price,
-                issue_letter(settlement.issue),
-            ),
-            None => f.write_str("-"),
-        }
+        let Settlement {
+            trade_date,
+            price,
+            issue,
+        } = self.0;
+        write!(f, "{trade_date} {price} {}", CodeLetter(issue))
     }
 }
 
 #[derive(Clone, Copy)]
-pub(crate) struct LimitsPart(pub(crate) Option<Limits>);
+pub(crate) struct LimitsPart(pub(crate) Limits);
 
 impl fmt::Display for LimitsPart {
-    ghost output = { λ x. Some (limits_part x.0) };
+    ghost output = { λ x. Some (limits_part (Some x.0)) };
 
     fn fmt<W: fmt::Write>(&self, f: &mut fmt::Formatter<W>) -> fmt::Result {
-        match self.0 {
-            Some(limits) => write!(f, "{} {}", limits.lower, limits.upper),
-            None => f.write_str("-"),
-        }
+        let Limits { upper, lower } = self.0;
+        write!(f, "{lower} {upper}")
     }
 }

@@ -1,12 +1,12 @@
-// The quote part of a row as part of its line. A dash stands where there is no bid, ask or last trade.
+// The quote part of a row as part of its line.
 ghost use Rattle.row_lines.specs.Parts.{quote_part, trade_part, quotes_part};
 ghost use Rattle.std.specs.Prelude.{Some};
 
-use crate::code::{condition_letter, status_letter};
-use crate::hex::HexByte;
+use crate::code::CodeLetter;
 use market::Quotes;
 use std::fmt;
-use wire_types::{LastTrade, Quote};
+use wire_types::{Code, LastTrade, Quote};
+use wire_words::{HexByte, OrDash};
 
 #[derive(Clone, Copy)]
 pub(crate) struct QuotesPart(pub(crate) Quotes);
@@ -19,45 +19,39 @@ impl fmt::Display for QuotesPart {
         write!(
             f,
             "bid {} ask {} last {} volume {} status {}",
-            QuotePart(quotes.bid),
-            QuotePart(quotes.ask),
-            TradePart(quotes.last),
+            OrDash(quotes.bid.map(QuotePart)),
+            OrDash(quotes.ask.map(QuotePart)),
+            OrDash(quotes.last.map(TradePart)),
             quotes.volume,
-            status_letter(quotes.status),
+            CodeLetter(quotes.status),
         )
     }
 }
 
 #[derive(Clone, Copy)]
-struct QuotePart(Option<Quote>);
+struct QuotePart(Quote);
 
 impl fmt::Display for QuotePart {
-    ghost output = { λ x. Some (quote_part x.0) };
+    ghost output = { λ x. Some (quote_part (Some x.0)) };
 
     fn fmt<W: fmt::Write>(&self, f: &mut fmt::Formatter<W>) -> fmt::Result {
-        match self.0 {
-            Some(quote) => write!(f, "{} {}", quote.price, quote.quantity),
-            None => f.write_str("-"),
-        }
+        let Quote { price, quantity } = self.0;
+        write!(f, "{price} {quantity}")
     }
 }
 
 #[derive(Clone, Copy)]
-struct TradePart(Option<LastTrade>);
+struct TradePart(LastTrade);
 
 impl fmt::Display for TradePart {
-    ghost output = { λ x. Some (trade_part x.0) };
+    ghost output = { λ x. Some (trade_part (Some x.0)) };
 
     fn fmt<W: fmt::Write>(&self, f: &mut fmt::Formatter<W>) -> fmt::Result {
-        match self.0 {
-            Some(trade) => write!(
-                f,
-                "{} {} {}",
-                trade.price,
-                trade.size,
-                HexByte(condition_letter(trade.condition)),
-            ),
-            None => f.write_str("-"),
-        }
+        let LastTrade {
+            price,
+            size,
+            condition,
+        } = self.0;
+        write!(f, "{price} {size} {}", HexByte(condition.byte()))
     }
 }

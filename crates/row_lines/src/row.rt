@@ -8,6 +8,7 @@ use crate::part::{LimitsPart, SettlementPart};
 use crate::quotes::QuotesPart;
 use market::Row;
 use std::fmt;
+use wire_words::OrDash;
 
 /// All that a row holds: prices in ten-thousandths, codes by their letters, symbols in hex.
 #[derive(Clone, Copy)]
@@ -23,9 +24,9 @@ impl fmt::Display for RowLine<'_> {
             "row {} {} settlement {} limits {} definition {}",
             HexSymbol(row.symbol),
             QuotesPart(row.quotes),
-            SettlementPart(row.settlement),
-            LimitsPart(row.limits),
-            DefinitionPart(row.definition),
+            OrDash(row.settlement.map(SettlementPart)),
+            OrDash(row.limits.map(LimitsPart)),
+            OrDash(row.definition.map(DefinitionPart)),
         )
     }
 }

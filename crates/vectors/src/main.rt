@@ -1,10 +1,10 @@
 // Holds what is said of blocks to the lines that are expected of them.
 #![tactic(auto)]
 
-mod bench;
+mod blocks;
 
-use crate::bench::Bench;
-use anyhow::anyhow;
+use crate::blocks::Blocks;
+use recording::Recording;
 use std::io::{BufRead, BufReader};
 
 fn main(rt: HostRuntime) -> anyhow::Result<()> {
@@ -12,21 +12,19 @@ fn main(rt: HostRuntime) -> anyhow::Result<()> {
 }
 
 fn run(rt: &HostRuntime) -> anyhow::Result<()> {
-    let mut input = BufReader::new(rt.alloc(), rt.stdin())?;
-    let mut bench = Bench::new(rt.alloc());
-    let mut line = Vec::new(rt.alloc());
-    for number in 1..u64::MAX {
-        line.clear();
-        if input.read_until(b'\n', &mut line)? == 0 {
-            break;
+    let input = BufReader::new(rt.alloc(), rt.stdin())?;
+    let mut recording = Recording::new(rt.alloc());
+    let mut blocks = Blocks::new(rt.alloc());
+    for (number, line) in (1..u64::MAX).zip(input.split(rt.alloc(), b'\n')) {
+        let line = line?;
+        match line.strip_prefix(b"= ") {
+            Some(expected) => blocks.expect(number, expected)?,
+            None => recording.add_line(&mut blocks, number, line.as_slice())?,
         }
-        bench.add_line(number, line.as_slice())?;
     }
-    bench.close()?;
-    rt.print(bench.text())?;
-    rt.println(bench.score())?;
-    match bench.score().verdict() {
-        Ok(()) => Ok(()),
-        Err(why) => Err(anyhow!(why)),
-    }
+    blocks.close()?;
+    rt.print(blocks.bench().text())?;
+    rt.println(blocks.bench().score())?;
+    blocks.bench().score().verdict()?;
+    Ok(())
 }

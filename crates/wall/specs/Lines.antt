@@ -1,15 +1,9 @@
--- What a line of a recording does to a book, and to the unit of the blocks to come. Assumes nothing.
-use Rattle.std.specs.Prelude.{ℕ, Some, Ok, Err, Option, Result}
+-- What a line of a recording does to a book. Assumes nothing.
+use Rattle.std.specs.Prelude.{ℕ, Ok, Err, Option, Result}
 use Rattle.market.specs.Market.{Kind, Market, View}
 use Rattle.play.specs.Takes.{taken_in}
 use Rattle.recording.specs.Lines.{Said, nothing, of_unit, block}
 use Rattle.recording.specs.declared.line.BadLine.{BadLine}
-
-abbrev pub unit_after : Result Said BadLine → Option ℕ → Option ℕ
-unit_after (Ok nothing) unit = unit
-unit_after (Ok (of_unit n)) unit = Some n
-unit_after (Ok (block carrier bytes)) unit = unit
-unit_after (Err bad) unit = unit
 
 -- a line that is not understood does nothing
 abbrev pub line_played : Result Said BadLine → Option ℕ → View Market Kind → View Market Kind

@@ -1,159 +1,104 @@
-// What is said of a recording while it is played.
+// A book that a recording is played to, and what is told on the way.
 ghost use Rattle.play.specs.Takes.{taken_in};
-ghost use Rattle.recording.specs.Lines.{line_of};
+ghost use Rattle.recording.specs.Lines.{line_of, unit_after};
+ghost use Rattle.recording.specs.Recordings.{unit_of};
 ghost use Rattle.std.specs.Prelude.{◌≡◌, OnOk};
-ghost use Rattle.wall.specs.Lines.{line_played, unit_after};
+ghost use Rattle.wall.specs.Lines.{line_played};
 
+use crate::show::show_market;
 use book::Book;
 use play::{Taken, take_block};
-use recording::{BadLine, Line, parse_line};
-use std::alloc::{AllocError, Global};
-use wire_names::carrier_name;
-use wire_types::Carrier;
-use wire_words::ShownFault;
+use recording::{BadLine, Heard, Listener, Recording, Tally};
+use std::alloc::Global;
+use std::io;
+use std::io::Write;
 
 /// How many blocks, messages and lines there were, by what became of them.
-#[derive(Clone, Copy)]
+#[derive(Clone, Copy, Default)]
 pub struct Total {
-    pub accepted: u64,
-    /// Messages of accepted blocks.
-    pub messages: u64,
-    pub refused: u64,
+    pub tally: Tally,
     /// Messages of accepted datagrams that have no number, and are not applied.
     pub without_number: u64,
     /// Messages that did not fit.
     pub declined: u64,
-    pub not_understood: u64,
 }
 
-/// The text that has been said and not been printed, and what there was so far.
+/// A book that a recording is played to, where that is told of, and what there was so far.
 #[derive(Drop)]
-pub struct Log {
-    heap: Global,
-    text: String,
-    unit: Option<u8>,
+pub struct Log<B, W> {
+    book: B,
+    out: W,
     total: Total,
 }
 
-impl Log {
-    pub fn new(heap: Global) -> Log {
+impl<B: Book, W: Write> Log<B, W> {
+    pub fn new(book: B, out: W) -> Log<B, W> {
         Log {
-            heap,
-            text: String::new(heap),
-            unit: None,
-            total: Total {
-                accepted: 0,
-                messages: 0,
-                refused: 0,
-                without_number: 0,
-                declined: 0,
-                not_understood: 0,
-            },
+            book,
+            out,
+            total: Total::default(),
         }
     }
 
-    pub fn text(&self) -> &str {
-        self.text.as_str()
-    }
-
-    pub fn clear(&mut self) {
-        self.text.clear();
-    }
-
-    pub fn total(&self) -> Total {
-        self.total
-    }
-
-    /// Plays a line of the recording into a book. What is refused, does not fit or is not understood is told.
-    pub fn add_line<B: Book>(
+    /// Plays a line of the recording to the book. What is refused, does not fit or is not understood is told.
+    pub fn add_line(
         &mut self,
-        book: &mut B,
+        recording: &mut Recording,
         number: u64,
         line: &[u8],
-    ) -> Result<(), AllocError>
-        ensures unit { OnOk result (self.new.unit ≡ unit_after (line_of line.now) self.old.unit) }
-        ensures book { OnOk result (B.view book.new ≡ line_played (line_of line.now) self.old.unit (B.view book.old)) }
+    ) -> io::Result<()>
+        ensures unit { OnOk result (unit_of recording.new ≡ unit_after (line_of line.now) (unit_of recording.old)) }
+        ensures book { OnOk result (B.view self.new.book ≡ line_played (line_of line.now) (unit_of recording.old) (B.view self.old.book)) }
     {
-        match parse_line(self.heap, line) {
-            Ok(Line::Blank) => Ok(()),
-            Ok(Line::Unit(unit)) => {
-                self.unit = Some(unit);
-                Ok(())
-            }
-            Ok(Line::Block { carrier, bytes }) => {
-                self.add_block(book, number, carrier, bytes.as_slice())
-            }
-            Err(BadLine::Memory) => Err(AllocError),
-            Err(bad) => self.add_bad(number, bad),
-        }
+        recording.add_line(self, number, line)
     }
 
-    fn add_block<B: Book>(
-        &mut self,
-        book: &mut B,
-        number: u64,
-        carrier: Carrier,
-        block: &[u8],
-    ) -> Result<(), AllocError>
-        ensures unit { self.new.unit ≡ self.old.unit }
-        ensures book { B.view book.new ≡ taken_in carrier self.old.unit block.now (B.view book.old) }
-    {
-        match take_block(book, carrier, self.unit, block) {
-            Ok(taken) => self.add_taken(number, carrier, block.len(), taken),
-            Err(fault) => {
-                self.total.refused = self.total.refused.saturating_add(1);
-                let said = format!(in self.heap; "{}", ShownFault(fault))?;
-                self.add_said(number, carrier, block.len(), said.as_str())
-            }
-        }
+    /// Shows the market, and what there was in the recording.
+    pub fn close(&mut self, heap: Global) -> io::Result<()> {
+        let market = show_market(heap, &mut self.book, self.total)?;
+        self.out.write_all(market.as_bytes())?;
+        self.out.flush()
     }
 
-    fn add_taken(
-        &mut self,
-        number: u64,
-        carrier: Carrier,
-        size: usize,
-        taken: Taken,
-    ) -> Result<(), AllocError>
-        ensures { self.new.unit ≡ self.old.unit }
+    fn add_taken(&mut self, heard: Heard<'_>, taken: Taken) -> io::Result<()>
+        ensures { self.new.book ≡ self.old.book }
     {
-        let count = u64::from(taken.header.count);
-        self.total.accepted = self.total.accepted.saturating_add(1);
-        self.total.messages = self.total.messages.saturating_add(count);
+        let count = taken.header.count;
+        self.total.tally.accept(count);
         let Some(played) = taken.played else {
-            self.total.without_number = self.total.without_number.saturating_add(count);
+            self.total.without_number = self.total.without_number.saturating_add(u64::from(count));
             return Ok(());
         };
-        let Some(first) = played.first_declined else {
+        let Some(declined) = played.declined else {
             return Ok(());
         };
-        let declined = played.declined;
-        self.total.declined = self.total.declined.saturating_add(u64::from(declined));
-        let said = format!(in self.heap;
-            "{declined} messages did not fit, the first at place {first}"
-        )?;
-        self.add_said(number, carrier, size, said.as_str())
+        let count = declined.count;
+        self.total.declined = self.total.declined.saturating_add(u64::from(count));
+        writeln!(
+            self.out,
+            "{heard}\n  {count} messages did not fit, the first at place {}",
+            declined.first
+        )
+    }
+}
+
+impl<B: Book, W: Write> Listener for Log<B, W> {
+    ghost block_gives = { λ s unit carrier bytes t. B.view t.book ≡ taken_in carrier unit bytes (B.view s.book) };
+
+    ghost bad_gives = { λ s t. B.view t.book ≡ B.view s.book };
+
+    fn hear_block(&mut self, heard: Heard<'_>) -> io::Result<()> {
+        match take_block(&mut self.book, heard.unit, heard.block) {
+            Ok(taken) => self.add_taken(heard, taken),
+            Err(fault) => {
+                self.total.tally.refuse();
+                writeln!(self.out, "{heard}\n  {fault}")
+            }
+        }
     }
 
-    fn add_said(
-        &mut self,
-        number: u64,
-        carrier: Carrier,
-        size: usize,
-        said: &str,
-    ) -> Result<(), AllocError>
-        ensures { self.new.unit ≡ self.old.unit }
-    {
-        let name = carrier_name(carrier);
-        let text = format!(in self.heap; "line {number}: {name} of {size} bytes\n  {said}\n")?;
-        self.text.push_str(text.as_str())
-    }
-
-    fn add_bad(&mut self, number: u64, bad: BadLine) -> Result<(), AllocError>
-        ensures { self.new.unit ≡ self.old.unit }
-    {
-        let said = format!(in self.heap; "line {number}: {bad}\n")?;
-        self.total.not_understood = self.total.not_understood.saturating_add(1);
-        self.text.push_str(said.as_str())
+    fn hear_bad(&mut self, number: u64, bad: BadLine) -> io::Result<()> {
+        self.total.tally.misread();
+        writeln!(self.out, "line {number}: {bad}")
     }
 }

@@ -40,26 +40,13 @@ pub fn parse_options(words: &[String]) -> Option<Options<'_>> {
 
 /// The number that decimal digits write, or the largest if it is larger.
 fn parse_number(digits: &str) -> Option<usize> {
-    if digits.is_empty() {
-        return None;
-    }
-    let mut number = 0usize;
-    for digit in digits.bytes() {
-        match digit {
-            b'0'..=b'9' => {
-                let value = usize::from(digit - b'0');
-                number = number.saturating_mul(10).saturating_add(value);
-            }
-            _ => return None,
-        }
-    }
-    Some(number)
+    let is_number = !digits.is_empty() && digits.bytes().all(|b| b.is_ascii_digit());
+    is_number.then(|| digits.parse().unwrap_or(usize::MAX))
 }
 
 /// The first six bytes of 1 to 6 characters, filled up with spaces. Only those that are no symbol have more bytes.
 fn parse_symbol(text: &str) -> Option<[u8; 6]> {
-    let length = text.chars().count();
-    if length == 0 || length > 6 {
+    if !(1..=6).contains(&text.chars().count()) {
         return None;
     }
     let mut symbol = [b' '; 6];

@@ -3,7 +3,7 @@ use Rattle.std.specs.Prelude.{ℕ, List, ◌++◌, Some, None, codes, decimal, O
 use Rattle.market.specs.declared.clock.Clock.{Clock}
 use Rattle.market.specs.declared.row.Limits.{Limits}
 use Rattle.market.specs.declared.row.Settlement.{Settlement}
-use Rattle.wire_names.specs.Names.{condition_word, issue_word}
+use Rattle.wire_types.specs.Words.{condition_word, issue_word}
 use Rattle.wire_types.specs.declared.quote.LastTrade.{LastTrade}
 use Rattle.wire_types.specs.declared.quote.Quote.{Quote}
 use Rattle.wire_words.specs.Decimals.{decimal_words}

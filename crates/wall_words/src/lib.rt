@@ -1,15 +1,13 @@
-// A market in words: its clock, the lines of two tables of its rows, and why a book of it cannot be made.
-// What cells, the clock and a refusal say is proved; the columns of the tables are held to expected text by the program that prints them.
+// A market in words: its clock, and the lines of two tables of its rows.
+// What cells and the clock say is proved; what is said of a definition, and the columns, are held to expected text by `wall`.
 #![tactic(auto)]
 
 mod cell;
 mod clock;
 mod instrument;
-mod refusal;
 mod table;
 
 pub use cell::{LimitsCell, QuoteCell, SettlementCell, TradeCell};
 pub use clock::ClockLine;
 pub use instrument::DefinitionCell;
-pub use refusal::ShownRefusal;
-pub use table::Table;
+pub use table::{InstrumentsTable, QuotesTable, Table};

@@ -3,95 +3,131 @@ use crate::cell::{LimitsCell, QuoteCell, SettlementCell, TradeCell};
 use crate::instrument::DefinitionCell;
 use market::Row;
 use std::alloc::{AllocError, Global};
-use wire_names::status_name;
-use wire_words::Symbol;
+use std::fmt;
+use wire_words::{OrDash, Symbol};
 
 /// A table with one line for each row.
-#[derive(Clone, Copy)]
-pub enum Table {
-    /// Symbol, status, bid, ask, last trade and volume.
-    Quotes,
-    /// Symbol, settlement, limits and definition.
-    Instruments,
-}
-
-impl Table {
+pub trait Table {
     /// The names of the columns, with the line's end.
-    pub fn heading(self, heap: Global) -> Result<String, AllocError> {
-        match self {
-            Table::Quotes => quotes_columns(
-                heap,
-                "symbol",
-                "status",
-                "bid",
-                "ask",
-                "last trade",
-                "volume",
-            ),
-            Table::Instruments => {
-                instruments_columns(heap, "symbol", "settlement", "limits", "definition")
-            }
-        }
-    }
+    fn heading(heap: Global) -> Result<String, AllocError>;
 
     /// The line of a row, with its end.
-    pub fn line(self, heap: Global, row: &Row) -> Result<String, AllocError> {
-        match self {
-            Table::Quotes => quotes_line(heap, row),
-            Table::Instruments => instruments_line(heap, row),
-        }
+    fn line(heap: Global, row: &Row) -> Result<String, AllocError>;
+}
+
+/// Symbol, status, bid, ask, last trade and volume.
+pub struct QuotesTable;
+
+impl Table for QuotesTable {
+    fn heading(heap: Global) -> Result<String, AllocError> {
+        let columns = QuotesColumns {
+            symbol: "symbol",
+            status: "status",
+            bid: "bid",
+            ask: "ask",
+            last: "last trade",
+            volume: "volume",
+        };
+        columns.to_string(heap)
+    }
+
+    fn line(heap: Global, row: &Row) -> Result<String, AllocError> {
+        let quotes = row.quotes;
+        let symbol = Symbol(&row.symbol).to_string(heap)?;
+        let status = quotes.status.to_string(heap)?;
+        let bid = OrDash(quotes.bid.map(QuoteCell)).to_string(heap)?;
+        let ask = OrDash(quotes.ask.map(QuoteCell)).to_string(heap)?;
+        let last = OrDash(quotes.last.map(TradeCell)).to_string(heap)?;
+        let volume = quotes.volume.to_string(heap)?;
+        let columns = QuotesColumns {
+            symbol: symbol.as_str(),
+            status: status.as_str(),
+            bid: bid.as_str(),
+            ask: ask.as_str(),
+            last: last.as_str(),
+            volume: volume.as_str(),
+        };
+        columns.to_string(heap)
     }
 }
 
-fn quotes_line(heap: Global, row: &Row) -> Result<String, AllocError> {
-    let symbol = Symbol(&row.symbol).to_string(heap)?;
-    let bid = QuoteCell(row.quotes.bid).to_string(heap)?;
-    let ask = QuoteCell(row.quotes.ask).to_string(heap)?;
-    let last = TradeCell(row.quotes.last).to_string(heap)?;
-    let volume = row.quotes.volume.to_string(heap)?;
-    quotes_columns(
-        heap,
-        symbol.as_str(),
-        status_name(row.quotes.status),
-        bid.as_str(),
-        ask.as_str(),
-        last.as_str(),
-        volume.as_str(),
-    )
+/// Symbol, settlement, limits and definition.
+pub struct InstrumentsTable;
+
+impl Table for InstrumentsTable {
+    fn heading(heap: Global) -> Result<String, AllocError> {
+        let columns = InstrumentsColumns {
+            symbol: "symbol",
+            settlement: "settlement",
+            limits: "limits",
+            definition: "definition",
+        };
+        columns.to_string(heap)
+    }
+
+    fn line(heap: Global, row: &Row) -> Result<String, AllocError> {
+        let symbol = Symbol(&row.symbol).to_string(heap)?;
+        let settlement = OrDash(row.settlement.map(SettlementCell)).to_string(heap)?;
+        let limits = OrDash(row.limits.map(LimitsCell)).to_string(heap)?;
+        let definition = OrDash(row.definition.map(DefinitionCell)).to_string(heap)?;
+        let columns = InstrumentsColumns {
+            symbol: symbol.as_str(),
+            settlement: settlement.as_str(),
+            limits: limits.as_str(),
+            definition: definition.as_str(),
+        };
+        columns.to_string(heap)
+    }
 }
 
-fn quotes_columns(
-    heap: Global,
-    symbol: &str,
-    status: &str,
-    bid: &str,
-    ask: &str,
-    last: &str,
-    volume: &str,
-) -> Result<String, AllocError> {
-    format!(in heap; "{symbol:<8}  {status:<9}  {bid:>19}  {ask:>19}  {last:>30}  {volume:>10}\n")
+/// A line of the table of quotes.
+#[derive(Clone, Copy)]
+struct QuotesColumns<'a> {
+    symbol: &'a str,
+    status: &'a str,
+    bid: &'a str,
+    ask: &'a str,
+    last: &'a str,
+    volume: &'a str,
 }
 
-fn instruments_line(heap: Global, row: &Row) -> Result<String, AllocError> {
-    let symbol = Symbol(&row.symbol).to_string(heap)?;
-    let settlement = SettlementCell(row.settlement).to_string(heap)?;
-    let limits = LimitsCell(row.limits).to_string(heap)?;
-    let definition = DefinitionCell(row.definition).to_string(heap)?;
-    instruments_columns(
-        heap,
-        symbol.as_str(),
-        settlement.as_str(),
-        limits.as_str(),
-        definition.as_str(),
-    )
+impl fmt::Display for QuotesColumns<'_> {
+    fn fmt<W: fmt::Write>(&self, f: &mut fmt::Formatter<W>) -> fmt::Result {
+        let QuotesColumns {
+            symbol,
+            status,
+            bid,
+            ask,
+            last,
+            volume,
+        } = *self;
+        writeln!(
+            f,
+            "{symbol:<8}  {status:<9}  {bid:>19}  {ask:>19}  {last:>30}  {volume:>10}"
+        )
+    }
 }
 
-fn instruments_columns(
-    heap: Global,
-    symbol: &str,
-    settlement: &str,
-    limits: &str,
-    definition: &str,
-) -> Result<String, AllocError> {
-    format!(in heap; "{symbol:<8}  {settlement:>32}  {limits:>28}  {definition}\n")
+/// A line of the table of instruments.
+#[derive(Clone, Copy)]
+struct InstrumentsColumns<'a> {
+    symbol: &'a str,
+    settlement: &'a str,
+    limits: &'a str,
+    definition: &'a str,
+}
+
+impl fmt::Display for InstrumentsColumns<'_> {
+    fn fmt<W: fmt::Write>(&self, f: &mut fmt::Formatter<W>) -> fmt::Result {
+        let InstrumentsColumns {
+            symbol,
+            settlement,
+            limits,
+            definition,
+        } = *self;
+        writeln!(
+            f,
+            "{symbol:<8}  {settlement:>32}  {limits:>28}  {definition}"
+        )
+    }
 }

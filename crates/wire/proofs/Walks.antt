@@ -4,12 +4,11 @@ use Rattle.std.proofs.lemmas.List.{length-drop}
 use Rattle.std.proofs.str.Laws.{order}
 use Rattle.std.specs.Result.{result_map_both}
 use Rattle.wire_types.specs.Records.{Record}
-use Rattle.wire_types.specs.Refusals.{Refusal, refusal, and_then}
-use Rattle.wire_types.specs.declared.fault.Layer.TheVariants as the_layer
+use Rattle.wire_types.specs.Refusals.{Refusal, and_then}
 use Rattle.wire_types.specs.declared.header.Carrier.{Carrier}
 use Rattle.wire_types.specs.declared.header.Header.{Header}
-use Rattle.wire.specs.Blocks.{behind_messages, left_behind, checked, header_rules, nothing_left}
-use Rattle.wire_reader.specs.Reading.{Standing, at_start, header_at, header_of, after_header, behind_header, header_step, message_ahead, message_step, after_message, behind_message, message_at, moved}
+use Rattle.wire.specs.Blocks.{behind_messages, left_behind, header_rules}
+use Rattle.wire_reader.specs.Reading.{Standing, at_start, header_of, after_header, behind_header, header_step, message_ahead, message_step, after_message, behind_message, message_at, moved}
 
 pub step : (carrier : Carrier) (k place : ℕ) (bytes : List ℕ) → 0 < k → behind_messages carrier k place bytes ≡ and_then (message_at carrier place bytes) (λ _. behind_messages carrier (k - 1) (place + 1) (drop (get_or bytes 0 0) bytes))
 unfolding behind_messages
@@ -18,14 +17,14 @@ step carrier (suc k) place bytes h = let e : suc k - 1 ≡ k = omega arith in rw
 
 some_goes : {X : Type 0} (r : Result Record Refusal) (y : Record) (next : Result X Refusal) → Ok (Some y) ≡ result_map_both Some (λ e. e) r → and_then r (λ _. next) ≡ next
 some_goes (Ok x) y next h = refl
-some_goes (Err f) y next h = let z : ◌≡◌ {A = ℕ} 0 1 = cc in absurd (omega arith)
+some_goes (Err f) y next h = cc
 
 none_never : (r : Result Record Refusal) → Ok None ≡ result_map_both Some (λ e. e) r → ⊥
-none_never (Ok x) h = let z : ◌≡◌ {A = ℕ} 0 1 = cc in omega arith
-none_never (Err f) h = let z : ◌≡◌ {A = ℕ} 0 1 = cc in omega arith
+none_never (Ok x) h = cc
+none_never (Err f) h = cc
 
 err_stops : {X : Type 0} (r : Result Record Refusal) (f : Refusal) (next : Result X Refusal) → Err f ≡ result_map_both Some (λ e. e) r → and_then r (λ _. next) ≡ Err f
-err_stops (Ok x) f next h = let z : ◌≡◌ {A = ℕ} 0 1 = cc in absurd (omega arith)
+err_stops (Ok x) f next h = cc
 err_stops (Err g) f next h = cc
 
 inside : (s : Standing) → s.place < s.count → message_step s ≡ result_map_both Some (λ e. e) (message_ahead s)
@@ -38,7 +37,7 @@ module _ (s : Standing) where
   -- a message came, so one was left
   some_inside : (y : Record) → Ok (Some y) ≡ message_step s → s.place < s.count
   some_inside y h =
-      ⊎_elim (λ a. a) (λ b. absurd (let e = h ∙ outside s b in let z : ◌≡◌ {A = ℕ} 0 1 = cc in omega arith))
+      ⊎_elim (λ a. a) (λ b. absurd (let e = h ∙ outside s b in cc))
       (order s.place s.count)
 
   -- a message came: the walk goes on behind it
@@ -66,12 +65,12 @@ module _ (s : Standing) where
   on_err f h =
       ⊎_elim
       (λ a. ap (result_map_both length (λ e. e)) (step s.carrier (s.count - s.place) s.place s.ahead (omega arith) ∙ err_stops (message_ahead s) f _ (h ∙ inside s a)))
-      (λ b. absurd (let e = h ∙ outside s b in let z : ◌≡◌ {A = ℕ} 0 1 = cc in omega arith))
+      (λ b. absurd (let e = h ∙ outside s b in cc))
       (order s.place s.count)
 
 ok_after : {X Y E : Type 0} (r : Result X E) (next : Result Y E) (y : Y) → and_then r (λ _. next) ≡ Ok y → next ≡ Ok y
 ok_after (Ok x) next y h = h
-ok_after (Err e) next y h = let z : ◌≡◌ {A = ℕ} 0 1 = cc in absurd (omega arith)
+ok_after (Err e) next y h = cc
 
 -- what is left is no longer than what was ahead
 pub shrinks : (carrier : Carrier) (k place : ℕ) (bytes rest : List ℕ) → behind_messages carrier k place bytes ≡ Ok rest → length rest ≤ length bytes
@@ -83,7 +82,7 @@ shrinks carrier (suc k) place bytes rest h =
 
 mapped_ok : {X Y E : Type 0} (f : X → Y) (r : Result X E) (y : Y) → result_map_both f (λ e. e) r ≡ Ok y → (x : X) × (r ≡ Ok x) × (f x ≡ y)
 mapped_ok f (Ok x) y h = (x, refl, (cc))
-mapped_ok f (Err e) y h = let z : ◌≡◌ {A = ℕ} 0 1 = cc in absurd (omega arith)
+mapped_ok f (Err e) y h = cc
 
 pub left_within : (s : Standing) (n : ℕ) → left_behind s ≡ Ok n → n ≤ length s.ahead
 left_within s n h =
@@ -91,11 +90,8 @@ left_within s n h =
     let w = shrinks s.carrier (s.count - s.place) s.place s.ahead m.0 m.1 in
     omega (arith, m.2)
 
-on_ok : {X Y E : Type 0} (r : Result X E) (x : X) (f : X → Result Y E) → Ok x ≡ r → and_then r f ≡ f x
-on_ok r x f p = ap (λ t. and_then t f) (sym p)
-
 header_read : (v : Bool) (e : Refusal) (x h : Header) → Ok h ≡ cond v (Err e) (Ok x) → (v ≡ false) × (h ≡ x)
-header_read true e x h p = let z : ◌≡◌ {A = ℕ} 0 1 = cc in absurd (omega arith)
+header_read true e x h p = cc
 header_read false e x h p = (refl, (cc))
 
 -- a reader opened a block of good header h, and stands at s
@@ -107,25 +103,6 @@ module _ (carrier : Carrier) (unit : ℕ) (b : List ℕ) (start s : Standing) (h
   opened =
       let c = header_read (ltb (length b) 8) _ (header_of b) h (rw o at p) in
       (e ∙ rw (o, c.0) refl, c.1)
-
-  -- the check is what the reader leaves behind the messages
-  behind_header_good : checked carrier unit b ≡ and_then (left_behind s) (λ left. nothing_left (length b) h left)
-  behind_header_good =
-      let r : Ok h ≡ header_at b = rw o at p in
-      let n : get_or b 2 0 - 0 ≡ h.count = omega (arith, ap (λ x. x.count) opened.1) in
-      let left : left_behind s ≡ result_map_both length (λ e. e) (behind_messages carrier h.count 0 (drop 8 b)) =
-      ap left_behind opened.0 ∙ ap (λ k. result_map_both length (λ e. e) (behind_messages carrier k 0 (drop 8 b))) n in
-      on_ok (header_at b) h _ r ∙ on_ok (header_rules carrier unit (length b) h) g _ q
-      ∙ ap (λ l. and_then l (λ left. nothing_left (length b) h left)) (sym left)
-
-  pub accepted : (left : ℕ) → Ok left ≡ left_behind s → left ≡ 0 → Ok h ≡ checked carrier unit b
-  accepted left l z = sym (behind_header_good ∙ rw (← l, z) refl)
-
-  pub stopped : (f : Refusal) → Err f ≡ left_behind s → Err f ≡ checked carrier unit b
-  stopped f l = sym (behind_header_good ∙ rw (← l) refl)
-
-  pub left_over : (left : ℕ) → Ok left ≡ left_behind s → (left ≡ 0 → ⊥) → Err (refusal 12 the_layer.Header (length b - left)) ≡ checked carrier unit b
-  left_over left l z = sym (behind_header_good ∙ rw (← l) (grind arith))
 
   pub left_in_block : (left : ℕ) → Ok left ≡ left_behind s → left ≤ length b
   left_in_block left l =

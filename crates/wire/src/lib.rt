@@ -1,6 +1,6 @@
 // Whole blocks: accepted with their header, or refused with the first fault.
 #![tactic(auto)]
 
-mod check;
+mod checking;
 
-pub use check::{check_datagram, check_for, check_spin_block};
+pub use checking::{check, check_for};

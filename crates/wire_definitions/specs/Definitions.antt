@@ -2,9 +2,10 @@
 -- at least. Assumes nothing.
 use Rattle.std.specs.Prelude.{ℕ, zero, suc, ◌+◌, ◌*◌, ◌%◌, Bool, cond, ◌&&◌, ◌||◌, List, length, take, drop, None, Ok, Err, Option, Result, ◌==◌, nat_le, slice_index}
 use Rattle.std.specs.Option.{option_or}
-use Rattle.wire_fields.specs.Codes.{code_at, listing_of}
+use Rattle.wire_fields.specs.Codes.{code_at}
 use Rattle.wire_numbers.specs.Prices.{long_price}
 use Rattle.wire_fields.specs.Symbols.{symbol_at, first_bad, unless_bad}
+use Rattle.wire_types.specs.Codes.{listing_of}
 use Rattle.wire_types.specs.Legs.{LegRecord, legs_in}
 use Rattle.wire_types.specs.Numbers.{le, signed}
 use Rattle.wire_types.specs.Records.{Record, Makeup, outright, spread, variance_future, definition}

@@ -6,4 +6,3 @@ mod legs;
 mod structure;
 
 pub use definition::read_definition;
-pub use legs::{leg_count, read_leg};

@@ -4,5 +4,5 @@
 mod code;
 mod symbol;
 
-pub use code::{read_condition, read_issue, read_listing, read_side, read_status};
-pub use symbol::{read_symbol, same_symbol, six_bytes};
+pub use code::read_code;
+pub use symbol::read_symbol;

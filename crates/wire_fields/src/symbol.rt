@@ -1,51 +1,35 @@
 // Symbols: six printable bytes.
-ghost use Rattle.std.specs.Prelude.{◌≡◌, ◌+◌, ◌≤◌, length, take, drop, MatchBool, ◌≢◌};
+ghost use Rattle.std.specs.Prelude.{◌≡◌, ◌+◌, ◌≤◌, length, not};
+ghost use Rattle.std.specs.List.{position};
 ghost use Rattle.wire_fields.specs.Symbols.{printable, symbol_at};
 ghost use Rattle.wire_types.specs.Refusals.{reads};
 
-use wire_types::{Flaw, Why};
-
-fn is_printable(b: u8) -> bool
-    ensures { result ≡ printable b }
-{
-    b >= 0x20 && b <= 0x7e
-}
+use crate::code::not_listed;
+use wire_numbers::bytes_at;
+use wire_types::Flaw;
 
 /// The symbol from `at` on, lent from the message; or its first byte that no symbol may hold.
+#[tactic(auto, using(crate::proofs::Searches::first_found))]
 pub fn read_symbol<'a>(m: &'a [u8], at: usize) -> Result<&'a [u8; 6], Flaw>
     requires { at + 6 ≤ length m.now }
     ensures { reads (λ x. x.now) result ≡ symbol_at m.now at }
 {
-    for i in 0..6 {
-        if !is_printable(m[at + i]) {
-            return Err(Flaw {
-                why: Why::NotListed,
-                byte: at + i,
-            });
-        }
-    }
-    Ok(six_bytes(m, at))
-}
-
-/// Six bytes as an array, whatever they hold.
-pub fn six_bytes<'a>(m: &'a [u8], at: usize) -> &'a [u8; 6]
-    requires { at + 6 ≤ length m.now }
-    ensures { result.now ≡ take 6 (drop at m.now) }
-{
-    match m[at..at + 6].try_into() {
-        Ok(bytes) => bytes,
-        Err(_) => unreachable(),
+    let symbol = bytes_at(m, at);
+    match first_bad(symbol) {
+        Some(i) => Err(not_listed(at + i)),
+        None => Ok(symbol),
     }
 }
 
-/// Whether two symbols are equal. Everything that compares symbols asks here.
-pub fn same_symbol(a: &[u8; 6], b: &[u8; 6]) -> bool
-    ensures { MatchBool result (a.now ≡ b.now) (a.now ≢ b.now) }
+/// The place of the first byte that no symbol may hold.
+fn first_bad(symbol: &[u8; 6]) -> Option<usize>
+    ensures { result ≡ position (λ b. not (printable b)) symbol.now }
 {
-    for i in 0..6 {
-        if a[i] != b[i] {
-            return false;
-        }
-    }
-    true
+    symbol.iter().position(|b| !is_printable(*b))
+}
+
+fn is_printable(b: u8) -> bool
+    ensures { result ≡ printable b }
+{
+    matches!(b, 0x20..=0x7e)
 }

@@ -3,9 +3,10 @@ use Rattle.std.proofs.Common.{◌≡◌, ℕ, zero, suc, ◌+◌, ◌*◌, ◌<�
 use Rattle.std.proofs.lemmas.List.{ext_get_or, get_or-take, get_or-drop, length-take, length-drop}
 use Rattle.std.proofs.lemmas.Bool.Decides.{nat_tests}
 use Rattle.wire_definitions.specs.Definitions.{definition_at, makeup_at, parts_at, first_bad_leg, keeps_leg_rule, is_variance, leg_count, legs_at, variance_at}
-use Rattle.wire_fields.specs.Codes.{code_at, listing_of}
+use Rattle.wire_fields.specs.Codes.{code_at}
 use Rattle.wire_fields.specs.Symbols.{first_bad, symbol_at}
 use Rattle.wire_messages.specs.Tails.{span}
+use Rattle.wire_types.specs.Codes.{listing_of}
 use Rattle.wire_types.specs.Legs.{LegRecord}
 use Rattle.wire_types.specs.Numbers.{le, signed}
 use Rattle.wire_types.specs.Records.{Record, Makeup, outright, spread, variance_future, definition}

@@ -4,12 +4,13 @@ use Rattle.std.proofs.lemmas.Bool.Decides.{nat_tests}
 use Rattle.std.specs.Option.{option_or, option_map}
 use Rattle.std.specs.Result.{result_err}
 use Rattle.wire_definitions.specs.Definitions.{definition_at, makeup_at, parts_at, first_bad_leg, keeps_leg_rule, is_variance, leg_count}
-use Rattle.wire_fields.specs.Codes.{code_at, listed, side_of, status_of, condition_of, issue_of, listing_of}
+use Rattle.wire_fields.specs.Codes.{code_at, listed}
 use Rattle.wire_fields.specs.Symbols.{first_bad, unless_bad, symbol_at}
 use Rattle.wire_messages.proofs.Tests.{first_of, first_fail, Ordered}
 use Rattle.wire_messages.specs.Forms.{fixed_at}
 use Rattle.wire_messages.specs.Kinds.{table_length}
 use Rattle.wire_messages.specs.Rules.{Test, fixed_tests, tests, leg_symbols}
+use Rattle.wire_types.specs.Codes.{side_of, status_of, condition_of, issue_of, listing_of}
 use Rattle.wire_types.specs.Legs.{LegRecord}
 use Rattle.wire_types.specs.Records.{Record, Makeup, outright, spread}
 use Rattle.wire_types.specs.Refusals.{Breach, breach, and_then}

@@ -1,5 +1,5 @@
 -- The first byte that fails a list of tests, and that it is the lowest.
-use Rattle.std.proofs.Common.{◌≡◌, ℕ, zero, suc, ◌+◌, ◌<◌, ◌≤◌, Bool, true, false, cond, ◌⊎◌, List, [], ◌∷◌, get_or, take, Some, None, Option, sym, refl, ◌∙◌, inl, inr, ⊎_elim, arith}
+use Rattle.std.proofs.Common.{◌≡◌, ℕ, zero, suc, ◌+◌, ◌<◌, ◌≤◌, Bool, true, false, cond, ◌⊎◌, List, [], ◌∷◌, get_or, take, Some, None, Option, sym, refl, inl, inr, ⊎_elim, arith}
 use Rattle.std.proofs.lemmas.List.{get_or-take}
 use Rattle.std.proofs.str.Laws.{order}
 use Rattle.std.specs.Option.{option_or}
@@ -55,13 +55,13 @@ by_front k m at b false e behind h = found_here k m at b e h
 
 pub bad_at : (k : ℕ) (m : List ℕ) (at b : ℕ) → first_bad k m at ≡ Some b → Found k m at b
 unfolding first_bad
-bad_at zero m at b h = let z : ◌≡◌ {A = ℕ} 0 1 = cc in absurd (omega arith)
+bad_at zero m at b h = cc
 bad_at (suc k) m at b h = by_front k m at b (printable (get_or m at 0)) refl (bad_at k m (at + 1) b) h
 
 all_front : (k : ℕ) (m : List ℕ) (at : ℕ) (v : Bool) → printable (get_or m at 0) ≡ v → (first_bad k m (at + 1) ≡ None → (c : ℕ) → at + 1 ≤ c → c < at + 1 + k → printable (get_or m c 0) ≡ true) → cond v (first_bad k m (at + 1)) (Some at) ≡ None → (c : ℕ) → at ≤ c → c < at + suc k → printable (get_or m c 0) ≡ true
 all_front k m at true e behind h c p q =
     ⊎_elim (λ l. behind h c (omega arith) (omega arith)) (λ l. let same : at ≡ c = omega arith in rw same at e) (order at c)
-all_front k m at false e behind h c p q = let z : ◌≡◌ {A = ℕ} 0 1 = cc in absurd (omega arith)
+all_front k m at false e behind h c p q = cc
 
 -- what it says where it found none
 pub none_bad : (k : ℕ) (m : List ℕ) (at : ℕ) → first_bad k m at ≡ None → (c : ℕ) → at ≤ c → c < at + k → printable (get_or m c 0) ≡ true
@@ -70,17 +70,17 @@ none_bad zero m at h c p q = absurd (omega arith)
 none_bad (suc k) m at h c p q = all_front k m at (printable (get_or m at 0)) refl (none_bad k m (at + 1)) h c p q
 
 clash : {b : Bool} → b ≡ true → b ≡ false → ⊥
-clash {b} p q = let z : true ≡ false = sym p ∙ q in let n : ◌≡◌ {A = ℕ} 0 1 = cc in omega arith
+clash {b} p q = cc
 
 code_some : (at : ℕ) (listed : ℕ → Bool) (m : List ℕ) (b : ℕ) (v : Bool) → listed (get_or m at 0) ≡ v → cond v None (Some at) ≡ Some b → (at ≤ b) × (b < at + 1) × Fails (code_among at listed) m b × ((c : ℕ) → c < b → Fails (code_among at listed) m c → ⊥)
-code_some at listed m b true e h = let z : ◌≡◌ {A = ℕ} 0 1 = cc in absurd (omega arith)
+code_some at listed m b true e h = cc
 code_some at listed m b false e h =
     let same : at ≡ b = cc in
     (omega arith, omega arith, (sym same, e), λ c q x. let d = x.0 in omega arith)
 
 code_none : (at : ℕ) (listed : ℕ → Bool) (m : List ℕ) (v : Bool) → listed (get_or m at 0) ≡ v → cond v None (Some at) ≡ None → (c : ℕ) → Fails (code_among at listed) m c → ⊥
 code_none at listed m true e h c x = clash e x.1
-code_none at listed m false e h c x = let z : ◌≡◌ {A = ℕ} 0 1 = cc in omega arith
+code_none at listed m false e h c x = cc
 
 -- one test: the first byte found fails it, and none below does
 pub first_of_some : (t : Test) (m : List ℕ) (b : ℕ) → first_of t m ≡ Some b → (begins t ≤ b) × (b < ends t) × Fails t m b × ((c : ℕ) → c < b → Fails t m c → ⊥)
@@ -126,7 +126,7 @@ outside_from lo (t ∷ ts) hi m c o (inr x) =
 
 pub or_none : {X : Type 0} (o p : Option X) → option_or o p ≡ None → (o ≡ None) × (p ≡ None)
 or_none None p h = (refl, h)
-or_none (Some i) p h = let z : ◌≡◌ {A = ℕ} 0 1 = cc in absurd (omega arith)
+or_none (Some i) p h = cc
 
 pub or_some : {X : Type 0} (o p : Option X) (b : X) → option_or o p ≡ Some b → (o ≡ Some b) ⊎ ((o ≡ None) × (p ≡ Some b))
 or_some None p b h = inr (refl, h)
@@ -149,7 +149,7 @@ lowest_behind t ts m b e r = (inr r.0, λ c q x. ⊎_elim (first_of_none t m e c
 
 -- what is found first is the lowest that fails
 pub first_fail_some : (lo : ℕ) (ts : List Test) (hi : ℕ) (m : List ℕ) (b : ℕ) → Ordered lo ts hi → first_fail ts m ≡ Some b → Lowest ts m b
-first_fail_some lo [] hi m b o h = let z : ◌≡◌ {A = ℕ} 0 1 = cc in absurd (omega arith)
+first_fail_some lo [] hi m b o h = cc
 first_fail_some lo (t ∷ ts) hi m b o h =
     ⊎_elim (lowest_here t ts hi m b o.1)
     (λ e. lowest_behind t ts m b e.0 (first_fail_some (ends t) ts hi m b o.1 e.1))

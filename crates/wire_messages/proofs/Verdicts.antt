@@ -26,10 +26,10 @@ Judged k m (Err e) = Breaks k m e
 
 nowhere : (o : Option ℕ) → at_byte o ≡ None → o ≡ None
 nowhere None h = refl
-nowhere (Some i) h = let z : ◌≡◌ {A = ℕ} 0 1 = cc in absurd (omega arith)
+nowhere (Some i) h = cc
 
 somewhere : (o : Option ℕ) (e : Breach) → at_byte o ≡ Some e → (b : ℕ) × (o ≡ Some b) × (e ≡ breach 10 b)
-somewhere None e h = let z : ◌≡◌ {A = ℕ} 0 1 = cc in absurd (omega arith)
+somewhere None e h = cc
 somewhere (Some b) e h = (b, refl, (cc))
 
 or_nothing : {X : Type 0} (o : Option X) → option_or o None ≡ o
@@ -58,7 +58,7 @@ judge_legs m (Err e) long w kept h =
     (first_fail_some 45 (leg_symbols (leg_count m) 45) (45 + 10 * leg_count m) m s.0 (legs_ordered (leg_count m) 45) s.1) s.2
 
 judge_broken : (m : List ℕ) (r : Result Record Breach) → 45 ≤ length m → Within (tests the_kind.Definition) m → keeps_leg_rule m ≡ false → result_err r ≡ Some (breach 11 38) → Judged the_kind.Definition m r
-judge_broken m (Ok x) long w gone h = let z : ◌≡◌ {A = ℕ} 0 1 = cc in absurd (omega arith)
+judge_broken m (Ok x) long w gone h = cc
 judge_broken m (Err e) long w gone h = rule_broken long w gone (cc)
 
 rule_gone : (m : List ℕ) → keeps_leg_rule m ≡ false → result_err (makeup_at m) ≡ Some (breach 11 38)
@@ -69,7 +69,7 @@ judge_makeup m r true e long w h = judge_legs m r long w e (h ∙ makeup_first m
 judge_makeup m r false e long w h = judge_broken m r long w e (h ∙ rule_gone m e)
 
 judge_at : (m : List ℕ) (r : Result Record Breach) (b : ℕ) → 45 ≤ length m → Lowest (tests the_kind.Definition) m b → result_err r ≡ Some (breach 10 b) → Judged the_kind.Definition m r
-judge_at m (Ok x) b long low h = let z : ◌≡◌ {A = ℕ} 0 1 = cc in absurd (omega arith)
+judge_at m (Ok x) b long low h = cc
 judge_at m (Err e) b long low h = not_listed b long low (cc)
 
 judge_tests : (m : List ℕ) (r : Result Record Breach) (o : Option ℕ) → first_fail (tests the_kind.Definition) m ≡ o → 45 ≤ length m → result_err r ≡ option_or (at_byte o) (result_err (makeup_at m)) → Judged the_kind.Definition m r

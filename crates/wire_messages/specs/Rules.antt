@@ -2,9 +2,9 @@
 -- which byte is the lowest that fails, and which rule is broken first. Assumes nothing.
 use Rattle.std.specs.Prelude.{◌≡◌, ℕ, zero, suc, ◌+◌, ◌<◌, ◌≤◌, Bool, true, false, ◌⊎◌, List, [], ◌∷◌, length, take, is_some, slice_index}
 use Rattle.wire_definitions.specs.Definitions.{keeps_leg_rule, leg_count}
-use Rattle.wire_fields.specs.Codes.{side_of, status_of, condition_of, issue_of, listing_of}
 use Rattle.wire_fields.specs.Symbols.{printable}
 use Rattle.wire_messages.specs.Kinds.{kind_of, least}
+use Rattle.wire_types.specs.Codes.{side_of, status_of, condition_of, issue_of, listing_of}
 use Rattle.wire_types.specs.Refusals.{Breach, breach}
 use Rattle.wire_types.specs.declared.header.Carrier.{Carrier}
 use Rattle.wire_types.specs.declared.kind.FixedKind.{FixedKind}

@@ -13,10 +13,8 @@ use wire_notices::{
     read_end_of_day_summary, read_open_interest, read_price_limits, read_settlement,
     read_trading_status,
 };
-use wire_quotes::{
-    read_single_side_long, read_single_side_short, read_snapshot_long, read_snapshot_short,
-    read_top_trade, read_two_side_long, read_two_side_short,
-};
+use wire_numbers::{Long, Short};
+use wire_quotes::{read_single_side, read_snapshot, read_top_trade, read_two_side};
 use wire_session::{
     read_end_of_session, read_spin_finished, read_spin_image_available, read_spin_response,
     read_time, read_time_reference, read_unit_clear,
@@ -41,14 +39,10 @@ pub fn frame<'a>(bytes: &'a [u8]) -> Result<&'a [u8], Flaw>
         why: Why::MessageLength,
         byte: 0,
     };
-    if bytes.is_empty() {
-        return Err(flaw);
+    match bytes {
+        [length @ 2.., ..] => bytes.get(..usize::from(*length)).ok_or(flaw),
+        _ => Err(flaw),
     }
-    let length = bytes[0] as usize;
-    if length < 2 || length > bytes.len() {
-        return Err(flaw);
-    }
-    Ok(&bytes[0..length])
 }
 
 fn read_front<'a>(carrier: Carrier, bytes: &'a [u8]) -> Result<Message<'a>, Flaw>
@@ -91,12 +85,12 @@ fn read_table<'a>(table: FixedKind, m: &'a [u8]) -> Result<Message<'a>, Flaw>
         FixedKind::TimeReference => read_time_reference(m),
         FixedKind::UnitClear => read_unit_clear(m),
         FixedKind::TradingStatus => read_trading_status(m),
-        FixedKind::SnapshotShort => read_snapshot_short(m),
-        FixedKind::SnapshotLong => read_snapshot_long(m),
-        FixedKind::SingleSideShort => read_single_side_short(m),
-        FixedKind::SingleSideLong => read_single_side_long(m),
-        FixedKind::TwoSideShort => read_two_side_short(m),
-        FixedKind::TwoSideLong => read_two_side_long(m),
+        FixedKind::SnapshotShort => read_snapshot::<Short>(m),
+        FixedKind::SnapshotLong => read_snapshot::<Long>(m),
+        FixedKind::SingleSideShort => read_single_side::<Short>(m),
+        FixedKind::SingleSideLong => read_single_side::<Long>(m),
+        FixedKind::TwoSideShort => read_two_side::<Short>(m),
+        FixedKind::TwoSideLong => read_two_side::<Long>(m),
         FixedKind::TopTrade => read_top_trade(m),
         FixedKind::Settlement => read_settlement(m),
         FixedKind::PriceLimits => read_price_limits(m),

@@ -1,9 +1,10 @@
 -- Where each field of a message stands: the tables that tell of an instrument apart from its quotes, m being the bytes of the table.
 -- Symbols and codes are tested from the lowest byte up, so the first refusal 10 tells the lowest byte. Assumes nothing.
 use Rattle.std.specs.Prelude.{ℕ, List, Ok, Result, slice_index}
-use Rattle.wire_fields.specs.Codes.{code_at, status_of, issue_of}
+use Rattle.wire_fields.specs.Codes.{code_at}
 use Rattle.wire_numbers.specs.Prices.{long_price}
 use Rattle.wire_fields.specs.Symbols.{symbol_at}
+use Rattle.wire_types.specs.Codes.{status_of, issue_of}
 use Rattle.wire_types.specs.Numbers.{le}
 use Rattle.wire_types.specs.Records.{Record, trading_status, settlement, price_limits, end_of_day_summary, open_interest}
 use Rattle.wire_types.specs.Refusals.{Breach, and_then}

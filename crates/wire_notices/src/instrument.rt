@@ -4,8 +4,8 @@ ghost use Rattle.wire_notices.specs.Layouts.{trading_status_at, settlement_at, p
 ghost use Rattle.wire_types.specs.Records.{meaning};
 ghost use Rattle.wire_types.specs.Refusals.{reads};
 
-use wire_fields::{read_issue, read_status, read_symbol};
-use wire_numbers::{read_price, read_u32};
+use wire_fields::{read_code, read_symbol};
+use wire_numbers::{Form, Long, Number};
 use wire_types::{Flaw, Message, OpenInterest, PriceLimits, Settlement, TradingStatus};
 
 /// Trading Status.
@@ -14,9 +14,9 @@ pub fn read_trading_status<'a>(m: &'a [u8]) -> Result<Message<'a>, Flaw>
     ensures { reads meaning result ≡ trading_status_at m.now }
 {
     let symbol = read_symbol(m, 6)?;
-    let status = read_status(m, 14)?;
+    let status = read_code(m, 14)?;
     Ok(Message::TradingStatus(TradingStatus {
-        time_offset: read_u32(m, 2),
+        time_offset: u32::read(m, 2),
         symbol,
         status,
     }))
@@ -28,12 +28,12 @@ pub fn read_settlement<'a>(m: &'a [u8]) -> Result<Message<'a>, Flaw>
     ensures { reads meaning result ≡ settlement_at m.now }
 {
     let symbol = read_symbol(m, 6)?;
-    let issue = read_issue(m, 24)?;
+    let issue = read_code(m, 24)?;
     Ok(Message::Settlement(Settlement {
-        time_offset: read_u32(m, 2),
+        time_offset: u32::read(m, 2),
         symbol,
-        trade_date: read_u32(m, 12),
-        price: read_price(m, 16),
+        trade_date: u32::read(m, 12),
+        price: Long::read_price(m, 16),
         issue,
     }))
 }
@@ -45,10 +45,10 @@ pub fn read_price_limits<'a>(m: &'a [u8]) -> Result<Message<'a>, Flaw>
 {
     let symbol = read_symbol(m, 6)?;
     Ok(Message::PriceLimits(PriceLimits {
-        time_offset: read_u32(m, 2),
+        time_offset: u32::read(m, 2),
         symbol,
-        upper: read_price(m, 12),
-        lower: read_price(m, 20),
+        upper: Long::read_price(m, 12),
+        lower: Long::read_price(m, 20),
     }))
 }
 
@@ -59,9 +59,9 @@ pub fn read_open_interest<'a>(m: &'a [u8]) -> Result<Message<'a>, Flaw>
 {
     let symbol = read_symbol(m, 6)?;
     Ok(Message::OpenInterest(OpenInterest {
-        time_offset: read_u32(m, 2),
+        time_offset: u32::read(m, 2),
         symbol,
-        trade_date: read_u32(m, 12),
-        open_interest: read_u32(m, 16),
+        trade_date: u32::read(m, 12),
+        open_interest: u32::read(m, 16),
     }))
 }

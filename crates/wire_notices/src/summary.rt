@@ -5,7 +5,7 @@ ghost use Rattle.wire_types.specs.Records.{meaning};
 ghost use Rattle.wire_types.specs.Refusals.{reads};
 
 use wire_fields::read_symbol;
-use wire_numbers::{read_price, read_u32};
+use wire_numbers::{Form, Long, Number};
 use wire_types::{EndOfDaySummary, Flaw, Message};
 
 /// End of Day Summary.
@@ -15,17 +15,17 @@ pub fn read_end_of_day_summary<'a>(m: &'a [u8]) -> Result<Message<'a>, Flaw>
 {
     let symbol = read_symbol(m, 6)?;
     Ok(Message::EndOfDaySummary(EndOfDaySummary {
-        time_offset: read_u32(m, 2),
+        time_offset: u32::read(m, 2),
         symbol,
-        trade_date: read_u32(m, 12),
-        open_interest: read_u32(m, 16),
-        high: read_price(m, 20),
-        low: read_price(m, 28),
-        open: read_price(m, 36),
-        close: read_price(m, 44),
-        volume: read_u32(m, 52),
-        block_volume: read_u32(m, 56),
-        ecrp_volume: read_u32(m, 60),
+        trade_date: u32::read(m, 12),
+        open_interest: u32::read(m, 16),
+        high: Long::read_price(m, 20),
+        low: Long::read_price(m, 28),
+        open: Long::read_price(m, 36),
+        close: Long::read_price(m, 44),
+        volume: u32::read(m, 52),
+        block_volume: u32::read(m, 56),
+        ecrp_volume: u32::read(m, 60),
         flags: m[64],
     }))
 }

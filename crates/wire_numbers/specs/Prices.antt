@@ -15,10 +15,14 @@ short_price m at = signed 2 (le 2 m at) *ℤ pos 100
 abbrev pub ShortPriceEnds : Type 0
 ShortPriceEnds = (short_price (0x00 ∷ 0x80 ∷ []) 0 ≡ negsuc 3276799) × (short_price (0xFF ∷ 0x7F ∷ []) 0 ≡ pos 3276700)
 
+-- a price of n bytes and a quantity behind it
+abbrev pub quote_at : (List ℕ → ℕ → ℤ) → ℕ → (List ℕ → ℕ → ℕ) → List ℕ → ℕ → Quote
+quote_at price n quantity m at = record { price = price m at; quantity = quantity m (at + n) }
+
 -- a short price and two bytes of quantity
 abbrev pub short_quote : List ℕ → ℕ → Quote
-short_quote m at = record { price = short_price m at; quantity = le 2 m (at + 2) }
+short_quote = quote_at short_price 2 (le 2)
 
 -- a long price and four bytes of quantity
 abbrev pub long_quote : List ℕ → ℕ → Quote
-long_quote m at = record { price = long_price m at; quantity = le 4 m (at + 8) }
+long_quote = quote_at long_price 8 (le 4)

@@ -1,47 +1,101 @@
 // Numbers of a fixed width, the least byte first. Callers have tested the message's length.
-ghost use Rattle.std.specs.Prelude.{◌+◌, ◌≤◌, length, ◌≡◌};
+ghost use Rattle.std.specs.Prelude.{◌+◌, ◌≤◌, List, ℕ, drop, length, take, ◌≡◌};
+ghost use Rattle.wire_numbers.specs.Widths.{le_own, signed_own};
 ghost use Rattle.wire_types.specs.Numbers.{le, signed};
 
-pub fn read_u16(m: &[u8], at: usize) -> u16
-    requires { at + 2 ≤ length m.now }
-    ensures { result ≡ le 2 m.now at }
-{
-    u16::from_le_bytes([m[at], m[at + 1]])
+/// A number that stands in a fixed number of bytes.
+pub trait Number: Sized {
+    // How many bytes it takes.
+    ghost width: { ℕ };
+
+    // The number of the bytes of a message from a place on.
+    ghost value: { List ℕ → ℕ → Self };
+
+    /// The number of the bytes of `m` from `at` on.
+    fn read(m: &[u8], at: usize) -> Self
+        requires { at + width ≤ length m.now }
+        ensures { result ≡ value m.now at };
+
+    // It is told by its own bytes alone.
+    ghost own_bytes: { (m : List ℕ) (at : ℕ) → value (take width (drop at m)) 0 ≡ value m at };
 }
 
-pub fn read_u32(m: &[u8], at: usize) -> u32
-    requires { at + 4 ≤ length m.now }
-    ensures { result ≡ le 4 m.now at }
-{
-    u32::from_le_bytes([m[at], m[at + 1], m[at + 2], m[at + 3]])
+impl Number for u16 {
+    ghost width = { 2 };
+
+    ghost value = { le 2 };
+
+    ghost own_bytes = { le_own 2 };
+
+    fn read(m: &[u8], at: usize) -> u16 {
+        u16::from_le_bytes(*bytes_at(m, at))
+    }
 }
 
-pub fn read_u64(m: &[u8], at: usize) -> u64
-    requires { at + 8 ≤ length m.now }
-    ensures { result ≡ le 8 m.now at }
-{
-    u64::from_le_bytes([
-        m[at],
-        m[at + 1],
-        m[at + 2],
-        m[at + 3],
-        m[at + 4],
-        m[at + 5],
-        m[at + 6],
-        m[at + 7],
-    ])
+impl Number for u32 {
+    ghost width = { 4 };
+
+    ghost value = { le 4 };
+
+    ghost own_bytes = { le_own 4 };
+
+    fn read(m: &[u8], at: usize) -> u32 {
+        u32::from_le_bytes(*bytes_at(m, at))
+    }
 }
 
-pub fn read_i32(m: &[u8], at: usize) -> i32
-    requires { at + 4 ≤ length m.now }
-    ensures { result ≡ signed 4 (le 4 m.now at) }
-{
-    read_u32(m, at).cast_signed()
+impl Number for u64 {
+    ghost width = { 8 };
+
+    ghost value = { le 8 };
+
+    ghost own_bytes = { le_own 8 };
+
+    fn read(m: &[u8], at: usize) -> u64 {
+        u64::from_le_bytes(*bytes_at(m, at))
+    }
 }
 
-pub fn read_i64(m: &[u8], at: usize) -> i64
-    requires { at + 8 ≤ length m.now }
-    ensures { result ≡ signed 8 (le 8 m.now at) }
+impl Number for i16 {
+    ghost width = { 2 };
+
+    ghost value = { λ m at. signed 2 (le 2 m at) };
+
+    ghost own_bytes = { signed_own 2 };
+
+    fn read(m: &[u8], at: usize) -> i16 {
+        u16::read(m, at).cast_signed()
+    }
+}
+
+impl Number for i32 {
+    ghost width = { 4 };
+
+    ghost value = { λ m at. signed 4 (le 4 m at) };
+
+    ghost own_bytes = { signed_own 4 };
+
+    fn read(m: &[u8], at: usize) -> i32 {
+        u32::read(m, at).cast_signed()
+    }
+}
+
+impl Number for i64 {
+    ghost width = { 8 };
+
+    ghost value = { λ m at. signed 8 (le 8 m at) };
+
+    ghost own_bytes = { signed_own 8 };
+
+    fn read(m: &[u8], at: usize) -> i64 {
+        u64::read(m, at).cast_signed()
+    }
+}
+
+/// The `N` bytes of `m` from `at` on as an array, whatever they hold.
+pub fn bytes_at<const N: usize>(m: &[u8], at: usize) -> &[u8; N]
+    requires { at + N ≤ length m.now }
+    ensures { result.now ≡ take N (drop at m.now) }
 {
-    read_u64(m, at).cast_signed()
+    m[at..].first_chunk().unwrap()
 }

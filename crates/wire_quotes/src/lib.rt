@@ -5,8 +5,6 @@ mod snapshot;
 mod trade;
 mod update;
 
-pub use snapshot::{read_snapshot_long, read_snapshot_short};
+pub use snapshot::read_snapshot;
 pub use trade::read_top_trade;
-pub use update::{
-    read_single_side_long, read_single_side_short, read_two_side_long, read_two_side_short,
-};
+pub use update::{read_single_side, read_two_side};

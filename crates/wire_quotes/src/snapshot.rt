@@ -1,59 +1,37 @@
 // Market Snapshot, short or long.
-ghost use Rattle.std.specs.Prelude.{◌≡◌, ◌≤◌, length};
-ghost use Rattle.wire_quotes.specs.Layouts.{snapshot_short_at, snapshot_long_at};
+ghost use Rattle.std.specs.Prelude.{◌≡◌, ◌+◌, ◌*◌, ◌≤◌, length};
+ghost use Rattle.wire_numbers.specs.Prices.{quote_at};
+ghost use Rattle.wire_quotes.specs.Layouts.{snapshot_at};
 ghost use Rattle.wire_types.specs.Records.{meaning};
 ghost use Rattle.wire_types.specs.Refusals.{reads};
 
-use wire_fields::{read_condition, read_status, read_symbol};
-use wire_numbers::{
-    read_long_quote, read_price, read_short_price, read_short_quote, read_u16, read_u32,
-};
+use wire_fields::{read_code, read_symbol};
+use wire_numbers::{Form, Number};
 use wire_types::{Flaw, LastTrade, Message, Snapshot};
 
-/// Market Snapshot (short).
-pub fn read_snapshot_short<'a>(m: &'a [u8]) -> Result<Message<'a>, Flaw>
-    requires { 37 ≤ length m.now }
-    ensures { reads meaning result ≡ snapshot_short_at m.now }
+/// Market Snapshot, in the form of its quotes.
+pub fn read_snapshot<'a, F: Form>(m: &'a [u8]) -> Result<Message<'a>, Flaw>
+    requires { 25 + 3 * F.QUOTE ≤ length m.now }
+    ensures { reads meaning result ≡ snapshot_at F.QUOTE (quote_at F.price F.PRICE F.quantity) m.now }
 {
+    // The last trade stands as quotes do, with its condition behind.
+    let behind = 16 + 3 * F::QUOTE;
     let symbol = read_symbol(m, 6)?;
-    let condition = read_condition(m, 28)?;
-    let status = read_status(m, 33)?;
+    let condition = read_code(m, behind)?;
+    let status = read_code(m, behind + 5)?;
+    let last = F::read_quote(m, 16 + 2 * F::QUOTE);
     Ok(Message::Snapshot(Snapshot {
-        time_offset: read_u32(m, 2),
+        time_offset: u32::read(m, 2),
         symbol,
-        unit_timestamp: read_u32(m, 12),
-        bid: read_short_quote(m, 16),
-        ask: read_short_quote(m, 20),
+        unit_timestamp: u32::read(m, 12),
+        bid: F::read_quote(m, 16),
+        ask: F::read_quote(m, 16 + F::QUOTE),
         last: LastTrade {
-            price: read_short_price(m, 24),
-            size: read_u16(m, 26) as u32,
+            price: last.price,
+            size: last.quantity,
             condition,
         },
-        volume: read_u32(m, 29),
-        status,
-    }))
-}
-
-/// Market Snapshot (long).
-pub fn read_snapshot_long<'a>(m: &'a [u8]) -> Result<Message<'a>, Flaw>
-    requires { 61 ≤ length m.now }
-    ensures { reads meaning result ≡ snapshot_long_at m.now }
-{
-    let symbol = read_symbol(m, 6)?;
-    let condition = read_condition(m, 52)?;
-    let status = read_status(m, 57)?;
-    Ok(Message::Snapshot(Snapshot {
-        time_offset: read_u32(m, 2),
-        symbol,
-        unit_timestamp: read_u32(m, 12),
-        bid: read_long_quote(m, 16),
-        ask: read_long_quote(m, 28),
-        last: LastTrade {
-            price: read_price(m, 40),
-            size: read_u32(m, 48),
-            condition,
-        },
-        volume: read_u32(m, 53),
+        volume: u32::read(m, behind + 1),
         status,
     }))
 }

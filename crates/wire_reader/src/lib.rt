@@ -1,8 +1,8 @@
 // A reader that steps over blocks, header by header and message by message.
 #![tactic(auto)]
 
+mod parts;
 mod reader;
-mod stepping;
 
+pub use parts::read_header;
 pub use reader::Reader;
-pub use stepping::read_header;

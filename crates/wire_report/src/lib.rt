@@ -1,6 +1,8 @@
 // Whole blocks in words.
 #![tactic(auto)]
 
+mod indented;
 mod report;
 
-pub use report::{Report, describe, push_indented};
+pub use indented::Indented;
+pub use report::{Report, describe};

@@ -4,7 +4,7 @@ ghost use Rattle.wire_session.specs.Layouts.{time_at, time_reference_at, unit_cl
 ghost use Rattle.wire_types.specs.Records.{meaning};
 ghost use Rattle.wire_types.specs.Refusals.{reads};
 
-use wire_numbers::read_u32;
+use wire_numbers::Number;
 use wire_types::{Flaw, Message, Time, TimeReference};
 
 /// Time.
@@ -13,8 +13,8 @@ pub fn read_time<'a>(m: &'a [u8]) -> Result<Message<'a>, Flaw>
     ensures { reads meaning result ≡ time_at m.now }
 {
     Ok(Message::Time(Time {
-        seconds: read_u32(m, 2),
-        epoch: read_u32(m, 6),
+        seconds: u32::read(m, 2),
+        epoch: u32::read(m, 6),
     }))
 }
 
@@ -24,10 +24,10 @@ pub fn read_time_reference<'a>(m: &'a [u8]) -> Result<Message<'a>, Flaw>
     ensures { reads meaning result ≡ time_reference_at m.now }
 {
     Ok(Message::TimeReference(TimeReference {
-        midnight: read_u32(m, 2),
-        seconds: read_u32(m, 6),
-        time_offset: read_u32(m, 10),
-        trade_date: read_u32(m, 14),
+        midnight: u32::read(m, 2),
+        seconds: u32::read(m, 6),
+        time_offset: u32::read(m, 10),
+        trade_date: u32::read(m, 14),
     }))
 }
 
@@ -37,7 +37,7 @@ pub fn read_unit_clear<'a>(m: &'a [u8]) -> Result<Message<'a>, Flaw>
     ensures { reads meaning result ≡ unit_clear_at m.now }
 {
     Ok(Message::UnitClear {
-        time_offset: read_u32(m, 2),
+        time_offset: u32::read(m, 2),
     })
 }
 
@@ -47,6 +47,6 @@ pub fn read_end_of_session<'a>(m: &'a [u8]) -> Result<Message<'a>, Flaw>
     ensures { reads meaning result ≡ end_of_session_at m.now }
 {
     Ok(Message::EndOfSession {
-        time_offset: read_u32(m, 2),
+        time_offset: u32::read(m, 2),
     })
 }

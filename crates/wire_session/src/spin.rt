@@ -4,7 +4,7 @@ ghost use Rattle.wire_session.specs.Layouts.{spin_image_available_at, spin_respo
 ghost use Rattle.wire_types.specs.Records.{meaning};
 ghost use Rattle.wire_types.specs.Refusals.{reads};
 
-use wire_numbers::read_u32;
+use wire_numbers::Number;
 use wire_types::{Flaw, Message, SpinResponse};
 
 /// Spin Image Available.
@@ -13,7 +13,7 @@ pub fn read_spin_image_available<'a>(m: &'a [u8]) -> Result<Message<'a>, Flaw>
     ensures { reads meaning result ≡ spin_image_available_at m.now }
 {
     Ok(Message::SpinImageAvailable {
-        sequence: read_u32(m, 2),
+        sequence: u32::read(m, 2),
     })
 }
 
@@ -23,8 +23,8 @@ pub fn read_spin_response<'a>(m: &'a [u8]) -> Result<Message<'a>, Flaw>
     ensures { reads meaning result ≡ spin_response_at m.now }
 {
     Ok(Message::SpinResponse(SpinResponse {
-        sequence: read_u32(m, 2),
-        order_count: read_u32(m, 6),
+        sequence: u32::read(m, 2),
+        order_count: u32::read(m, 6),
         status: m[10],
     }))
 }
@@ -35,6 +35,6 @@ pub fn read_spin_finished<'a>(m: &'a [u8]) -> Result<Message<'a>, Flaw>
     ensures { reads meaning result ≡ spin_finished_at m.now }
 {
     Ok(Message::SpinFinished {
-        sequence: read_u32(m, 2),
+        sequence: u32::read(m, 2),
     })
 }

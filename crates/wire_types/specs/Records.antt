@@ -1,6 +1,6 @@
 -- What a message means: its fields as numbers, codes and lists of bytes, with no reference into a block. Assumes nothing.
-use Rattle.std.specs.Prelude.{ℕ, List, ℤ}
-use Rattle.wire_types.specs.Legs.{LegRecord, legs_in}
+use Rattle.std.specs.Prelude.{ℕ, List, map, ℤ}
+use Rattle.wire_types.specs.Legs.{LegRecord, leg_of}
 use Rattle.wire_types.specs.declared.code.Condition.{Condition}
 use Rattle.wire_types.specs.declared.code.Issue.{Issue}
 use Rattle.wire_types.specs.declared.code.Listing.{Listing}
@@ -11,6 +11,7 @@ use Rattle.wire_types.specs.declared.instrument.Leg.{Leg}
 use Rattle.wire_types.specs.declared.instrument.Legs.{Legs}
 use Rattle.wire_types.specs.declared.instrument.Structure.{Structure}
 use Rattle.wire_types.specs.declared.instrument.Variance.{Variance}
+use Rattle.wire_types.specs.declared.legs.LegIter.{LegIter}
 use Rattle.wire_types.specs.declared.message.EndOfDaySummary.{EndOfDaySummary}
 use Rattle.wire_types.specs.declared.message.Message.{Message}
 use Rattle.wire_types.specs.declared.message.OpenInterest.{OpenInterest}
@@ -36,10 +37,14 @@ pub data Makeup : Type 0 where
   variance_future : Variance → Makeup
 
 abbrev pub leg_meaning : Leg → LegRecord
-leg_meaning x = record { ratio = x.ratio; symbol = x.symbol.now }
+leg_meaning x = record { ratio = x.ratio; symbol = x.symbol }
 
 abbrev pub legs_meaning : Legs → List LegRecord
-legs_meaning x = legs_in x.bytes.now
+legs_meaning x = map leg_of x.rows.now
+
+-- the legs that are still to come
+abbrev pub legs_left : LegIter → List LegRecord
+legs_left x = legs_meaning x.left
 
 abbrev pub makeup : Structure → Makeup
 makeup the_structure.Outright = outright

@@ -1,6 +1,10 @@
 // Why bytes are refused.
-ghost use Rattle.std.specs.Prelude.{◌≡◌};
-ghost use Rattle.wire_types.specs.Refusals.{number_of};
+ghost use Rattle.std.specs.Prelude.{◌≡◌, Some};
+ghost use Rattle.wire_types.specs.Refusals.{number_of, refusal_of};
+ghost use Rattle.wire_types.specs.Words.{told};
+
+use std::error::Error;
+use std::fmt;
 
 /// What is wrong with the bytes; each case is a numbered refusal.
 #[derive(Clone, Copy, Debug, PartialEq, Eq)]
@@ -66,3 +70,23 @@ pub struct Fault {
     pub layer: Layer,
     pub byte: usize,
 }
+
+/// The refusal's number, the layer that it was met in and the byte.
+impl fmt::Display for Fault {
+    ghost output = { λ x. Some (told (refusal_of x)) };
+
+    fn fmt<W: fmt::Write>(&self, f: &mut fmt::Formatter<W>) -> fmt::Result {
+        let Fault { why, layer, byte } = self;
+        let number = why.number();
+        match layer {
+            Layer::Header => write!(f, "refused {number} header byte {byte}"),
+            Layer::Message { place } => write!(
+                f,
+                "refused {number} message place {place} byte {byte}"
+            ),
+            Layer::Field { place } => write!(f, "refused {number} field place {place} byte {byte}"),
+        }
+    }
+}
+
+impl Error for Fault {}

@@ -1,4 +1,8 @@
 // What stands in front of a block's messages.
+ghost use Rattle.std.specs.Prelude.{Some};
+ghost use Rattle.wire_types.specs.Words.{carrier_word};
+
+use std::fmt;
 
 /// What brings a block: a datagram of the feed or of gap replay, or a spin.
 /// The three spin messages are known in spin blocks only.
@@ -6,6 +10,24 @@
 pub enum Carrier {
     Datagram,
     Spin,
+}
+
+impl fmt::Display for Carrier {
+    ghost output = { λ x. Some (carrier_word x) };
+
+    fn fmt<W: fmt::Write>(&self, f: &mut fmt::Formatter<W>) -> fmt::Result {
+        f.write_str(match self {
+            Carrier::Datagram => "datagram",
+            Carrier::Spin => "spin block",
+        })
+    }
+}
+
+/// A block as it comes: its bytes, and what brings them.
+#[derive(Clone, Copy)]
+pub struct Block<'a> {
+    pub carrier: Carrier,
+    pub bytes: &'a [u8],
 }
 
 /// The Sequenced Unit Header.

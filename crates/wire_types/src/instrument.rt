@@ -2,16 +2,16 @@
 use crate::code::Listing;
 
 /// One leg of a spread: how many, bought where positive, and of what.
-#[derive(Clone, Copy)]
-pub struct Leg<'a> {
+#[derive(Clone, Copy, Debug, PartialEq, Eq)]
+pub struct Leg {
     pub ratio: i32,
-    pub symbol: &'a [u8; 6],
+    pub symbol: [u8; 6],
 }
 
 /// The legs of a spread, ten bytes each.
-#[derive(Clone, Copy)]
+#[derive(Clone, Copy, Debug)]
 pub struct Legs<'a> {
-    pub bytes: &'a [u8],
+    pub rows: &'a [[u8; 10]],
 }
 
 /// The parameters of a variance future.

@@ -1,4 +1,4 @@
-// The types of the feed: codes, headers, messages and faults. Nothing here reads a byte.
+// The types of the feed: codes, headers, messages and faults.
 #![tactic(auto)]
 
 mod code;
@@ -6,14 +6,16 @@ mod fault;
 mod header;
 mod instrument;
 mod kind;
+mod legs;
 mod message;
 mod quote;
 
-pub use code::{Condition, Issue, Listing, Side, Status};
+pub use code::{Code, Condition, Issue, Listing, Side, Status, UnknownCode};
 pub use fault::{Fault, Flaw, Layer, Why};
-pub use header::{Carrier, Header};
+pub use header::{Block, Carrier, Header};
 pub use instrument::{Definition, Leg, Legs, Structure, Variance};
 pub use kind::{FixedKind, Kind};
+pub use legs::LegIter;
 pub use message::{
     EndOfDaySummary, Message, OpenInterest, PriceLimits, Settlement, SpinResponse, Time,
     TimeReference, TradingStatus,

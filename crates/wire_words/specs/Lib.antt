@@ -1,2 +1,4 @@
+pub mod Bytes
+pub mod Dashes
 pub mod Decimals
 pub mod Lines

@@ -1,10 +1,10 @@
-// Prices, quotes, symbols and faults as text.
+// Prices, quotes, symbols and bytes as text, and a dash for what is absent.
 #![tactic(auto)]
 
+mod dash;
 mod decimal;
-mod fault;
 mod part;
 
+pub use dash::OrDash;
 pub use decimal::{Decimal, price};
-pub use fault::ShownFault;
-pub use part::{Letter, ShownQuote, Symbol};
+pub use part::{HexByte, Letter, ShownQuote, Symbol};

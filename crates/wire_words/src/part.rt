@@ -1,5 +1,6 @@
 // What several messages have in common: symbols, quotes and bytes.
 ghost use Rattle.std.specs.Prelude.{Some};
+ghost use Rattle.wire_words.specs.Bytes.{hex_byte, letter_words, symbol_words};
 ghost use Rattle.wire_words.specs.Decimals.{quote_words};
 
 use crate::decimal::price;
@@ -7,21 +8,19 @@ use std::fmt;
 use wire_types::Quote;
 
 /// A symbol in double quotes, by its six bytes.
+#[derive(Clone, Copy)]
 pub struct Symbol<'a>(pub &'a [u8; 6]);
 
-impl Drop for Symbol<'_> {
-    fn drop(self) {
-        let Symbol(_) = self;
-    }
-}
-
 impl fmt::Display for Symbol<'_> {
+    ghost output = { λ x. Some (symbol_words x.0.now) };
+
     fn fmt<W: fmt::Write>(&self, f: &mut fmt::Formatter<W>) -> fmt::Result {
-        f.write_char('"')?;
-        for b in self.0 {
-            f.write_char(char::from(*b))?;
+        let bytes = self.0.as_slice();
+        f.write_str("\"")?;
+        for byte in bytes {
+            f.write_char(char::from(*byte))?;
         }
-        f.write_char('"')
+        f.write_str("\"")
     }
 }
 
@@ -44,16 +43,32 @@ impl fmt::Display for ShownQuote {
     }
 }
 
+/// A byte as two hex digits, lower case.
+#[derive(Clone, Copy)]
+pub struct HexByte(pub u8);
+
+impl fmt::Display for HexByte {
+    ghost output = { λ x. Some (hex_byte x.0) };
+
+    fn fmt<W: fmt::Write>(&self, f: &mut fmt::Formatter<W>) -> fmt::Result {
+        let byte = self.0;
+        write!(f, "{byte:02x}")
+    }
+}
+
 /// A byte as its character where it has one, else by its number.
 #[derive(Clone, Copy)]
 pub struct Letter(pub u8);
 
 impl fmt::Display for Letter {
+    ghost output = { λ x. Some (letter_words x.0) };
+
     fn fmt<W: fmt::Write>(&self, f: &mut fmt::Formatter<W>) -> fmt::Result {
         let byte = self.0;
-        match byte {
-            0x21..=0x7e => f.write_char(char::from(byte)),
-            _ => write!(f, "0x{byte:02x}"),
+        if byte.is_ascii_graphic() {
+            f.write_char(char::from(byte))
+        } else {
+            write!(f, "0x{}", HexByte(byte))
         }
     }
 }

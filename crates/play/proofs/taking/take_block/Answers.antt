@@ -1,9 +1,8 @@
-use Rattle.std.proofs.Common.{rules}
 use Rattle.play.proofs.Frames.{all_of_accepted}
 use Rattle.play.proofs.taking.take_block.Goals as goal
 
-pub returns-in_err-header : goal.returns-in_err-header
-returns-in_err-header g c = record { answer = search rules; book = search rules; all = all_of_accepted c.args.block.now; fold = search rules }
+pub returns-in_err-header-clause-all : goal.returns-in_err-header-clause-all
+returns-in_err-header-clause-all g c = all_of_accepted c.args.block.bytes.now
 
-pub returns-then-not-is_played : goal.returns-then-not-is_played
-returns-then-not-is_played g c = record { answer = search rules; book = search rules; all = all_of_accepted c.args.block.now; fold = search rules }
+pub returns-then-not-is_played-clause-all : goal.returns-then-not-is_played-clause-all
+returns-then-not-is_played-clause-all g c = all_of_accepted c.args.block.bytes.now

@@ -1,31 +1,31 @@
-use Rattle.std.proofs.Common.{◌∷◌, is_ok, sym, ap, ◌∙◌, subst}
-use Rattle.std.proofs.ResultArms.{chosen}
+use Rattle.std.proofs.Common.{sym, ap, subst, arith, ◌∙◌}
+use Rattle.std.proofs.lemmas.Bool.Decides.{nat_tests}
+use Rattle.std.proofs.lemmas.List.{take_rest}
 use Rattle.std.proofs.lemmas.Result.{err_from_is_err_and}
-use Rattle.recording.proofs.Turns.{Kept, over_blank, over_pair, no_pair, lone_digit, at_end}
+use Rattle.recording.specs.Text.{unblanked}
+use Rattle.recording.proofs.Turns.{Kept, at_start, shorter, over_pair, no_pair, lone_digit, at_end, byte_taken, byte_refused}
 use Rattle.recording.proofs.hex.bytes_of_hex.Goals as goal
 
-pub loop-first-preserved-then-is_blank : goal.loop-first-preserved-then-is_blank
-loop-first-preserved-then-is_blank c =
-    over_blank _ _ (sym c.if-is_blank.ensures) (subst (Kept _ _) c.in-Some.ensures.cases.0 c.loop-first.invariant)
+pub loop-rest-init : goal.loop-rest-init
+loop-rest-init c = subst (λ done. Kept c.args.text.now done c.skip_blanks-rest.result.now) (sym c.new-bytes.ensures.items) (at_start _ _ c.skip_blanks-rest.ensures)
 
-pub returns-in_default-split_first : goal.returns-in_default-split_first
-returns-in_default-split_first c =
-    lone_digit _ _ (sym c.if-is_blank.ensures) c.in_default-split_first.ensures.cases (subst (Kept _ _) c.in-Some.ensures.cases.0 c.loop-first.invariant)
+pub returns-in_err-ok_or : goal.returns-in_err-ok_or
+returns-in_err-ok_or c =
+    let p = err_from_is_err_and c.from_residual.result c.from_residual.ensures.1 in
+    let none = byte_refused c.pair.result _ (sym c.ok_or.ensures.value ∙ c.in_err-ok_or.was) in
+    rw (p.1, p.2, none.0) (no_pair _ c.in-len2-up.len_at_least (none.1 ∙ c.pair.ensures) c.loop-rest.invariant)
 
-pub returns-in_default-pair : goal.returns-in_default-pair
-returns-in_default-pair c =
-    let cut = c.in-Some.ensures.cases.0 ∙ ap (λ l. c.in-Some.first.now ∷ l) c.in-Some-split_first.ensures.cases.0 in
-    no_pair _ _ _ (sym c.if-is_blank.ensures) c.in_default-pair.ensures (subst (Kept _ _) cut c.loop-first.invariant)
+pub loop-rest-smaller : goal.loop-rest-smaller
+loop-rest-smaller c = shorter _ _ c.in-len2-up.len_at_least (c.skip_blanks-rest-in-len2-up.ensures ∙ ap unblanked (take_rest _ 2))
 
-pub returns-in_err-push : goal.returns-in_err-push
-returns-in_err-push c = let p = err_from_is_err_and c.from_residual.result c.from_residual.ensures.1 in rw (p.1, p.2) tt
+pub loop-rest-preserved : goal.loop-rest-preserved
+loop-rest-preserved c =
+    let taken = byte_taken c.pair.result _ (sym c.ok_or.ensures.value ∙ c.in_ok-ok_or.was) in
+    subst (λ done. Kept c.args.text.now done c.skip_blanks-rest-in-len2-up.result.now) (sym c.in_ok-push.ensures.items)
+    (over_pair _ _ _ c.in-len2-up.len_at_least (taken ∙ c.pair.ensures) (c.skip_blanks-rest-in-len2-up.ensures ∙ ap unblanked (take_rest _ 2)) c.loop-rest.invariant)
 
-pub loop-first-preserved : goal.loop-first-preserved
-loop-first-preserved c =
-    let cut = c.in-Some.ensures.cases.0 ∙ ap (λ l. c.in-Some.first.now ∷ l) c.in-Some-split_first.ensures.cases.0 in
-    let pushed = chosen _ _ _ _ c.push.ensures.items (ap is_ok c.in_ok-push.was) in
-    subst (λ done. Kept c.args.text.now done c.in-Some-split_first.tail.now) (sym pushed)
-    (over_pair _ _ _ _ (sym c.if-is_blank.ensures) c.in-Some-pair.ensures (subst (Kept _ _) cut c.loop-first.invariant))
+pub returns-then-not-is_empty : goal.returns-then-not-is_empty
+returns-then-not-is_empty c = lone_digit _ c.in_default.len_below (grind (arith, nat_tests)) c.loop-rest.invariant
 
 pub returns : goal.returns
-returns c = at_end _ c.in_default.ensures.cases c.loop-first.invariant
+returns c = at_end _ (grind (arith, nat_tests)) c.loop-rest.invariant

@@ -1,15 +1,11 @@
-use Rattle.std.proofs.Common.{sym, ap, ◌∙◌}
-use Rattle.recording.specs.Text.{unblanked}
-use Rattle.recording.proofs.Words.{over_blank, at_word, all_blank}
+use Rattle.std.proofs.Common.{not, rules, tests}
+use Rattle.std.proofs.lemmas.Iterator.{YieldsList-from_slice}
+use Rattle.std.proofs.lemmas.Iterator.Search.{position_from_yields_List}
+use Rattle.recording.specs.Text.{blank}
+use Rattle.recording.proofs.Words.{skipped}
 use Rattle.recording.proofs.text.skip_blanks.Goals as goal
 
-pub loop-first-preserved : goal.loop-first-preserved
-loop-first-preserved c =
-    c.loop-first.invariant ∙ ap unblanked c.in-Some.ensures.cases.0 ∙ over_blank _ _ (sym c.if-not-is_blank.ensures)
-
-pub returns-then-not-is_blank : goal.returns-then-not-is_blank
-returns-then-not-is_blank c =
-    sym (c.loop-first.invariant ∙ ap unblanked c.in-Some.ensures.cases.0 ∙ at_word _ _ (sym c.if-not-is_blank.ensures) ∙ sym c.in-Some.ensures.cases.0)
-
-pub returns-in_default : goal.returns-in_default
-returns-in_default c = sym (c.loop-first.invariant ∙ all_blank _ c.in_default.ensures.cases)
+pub returns : goal.returns
+returns c =
+    let found = position_from_yields_List (λ b. not (blank b)) _ _ c.position-start.result c.position-start.ensures.ran (YieldsList-from_slice c.args.text.now cc) (λ x b q k. search (rules, tests)) in
+    rw c.unwrap_or.ensures (skipped _ _ found)

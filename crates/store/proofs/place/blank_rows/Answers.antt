@@ -1,10 +1,14 @@
-use Rattle.std.proofs.Common.{◌∙◌, arith}
+use Rattle.std.proofs.Common.{◌≡◌, List, [], ◌∷◌, length, replicate, refl, ap, ◌∙◌, rules}
+use Rattle.std.specs.List.{FoldsTo}
 use Rattle.market.specs.Effects.{blank}
-use Rattle.store.proofs.Steps.{edit_more, all_blank}
+use Rattle.market.specs.declared.row.Row.{Row}
 use Rattle.store.proofs.place.blank_rows.Goals as goal
 
-pub loop-i-preserved : goal.loop-i-preserved
-loop-i-preserved c = edit_more (λ _. blank) c.args.rows.now c.loop-i.rows c.loop-i.i blank _ (omega arith) c.loop-i.auto.rows c.loop-i.invariant c.new_row-row.ensures
+-- steps that each give y
+filled : {F : Type 0} (step : F → Row → F → Type 0) (y : Row) → ((p : F) (x : Row) (q : F) → step p x q → x ≡ y) → (f last : F) (xs : List Row) → FoldsTo step f xs last → xs ≡ replicate (length xs) y
+filled step y is f last [] h = refl
+filled step y is f last (x ∷ xs) h =
+    ap (λ z. z ∷ xs) (is f x h.0 h.1) ∙ ap (λ zs. y ∷ zs) (filled step y is h.0 last xs h.2)
 
 pub returns : goal.returns
-returns c = c.loop-i.invariant ∙ all_blank c.args.rows.now _ (omega arith)
+returns c = filled _ blank (λ p x q h. search rules) _ _ _ c.fill_with.ensures.ran.1 ∙ ap (λ n. replicate n blank) c.fill_with.ensures.len

@@ -3,5 +3,6 @@ use Rattle.market.specs.Aims.{does}
 use Rattle.market.specs.Effects.{edited}
 use Rattle.store.proofs.place.edit_rows.Given as goal
 
-abbrev pub invariant-loop-i : goal.invariant-loop-i
-invariant-loop-i l = l.rows ≡ map (edited (does l.message)) (take l.i l.initial.rows) ++ drop l.i l.initial.rows
+abbrev pub invariant-loop-row : goal.invariant-loop-row
+invariant-loop-row l =
+    l.row-items ≡ map (edited (does l.message)) (take l.row-index l.initial.row-items) ++ drop l.row-index l.initial.row-items

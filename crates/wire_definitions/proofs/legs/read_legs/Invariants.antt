@@ -1,6 +1,9 @@
-use Rattle.std.proofs.Common.{◌≡◌, ◌+◌, ◌-◌, ◌*◌}
-use Rattle.wire_definitions.specs.Definitions.{first_bad_leg}
+use Rattle.std.proofs.Common.{◌-◌}
+use Rattle.wire_definitions.proofs.Walks.{Walked}
 use Rattle.wire_definitions.proofs.legs.read_legs.Given as goal
 
-abbrev pub invariant-loop-i : goal.invariant-loop-i
-invariant-loop-i l = first_bad_leg l.n l.m l.at ≡ first_bad_leg (l.n - l.i) l.m (l.at + 10 * l.i)
+abbrev pub invariant-loop-leg : goal.invariant-loop-leg
+invariant-loop-leg l = Walked l.count l.m l.at l.leg
+
+abbrev pub decreases-loop-leg : goal.decreases-loop-leg
+decreases-loop-leg l = l.end - l.leg

@@ -6,22 +6,15 @@ use Rattle.market.proofs.Applied.{viewed, viewed_as, by_aim}
 use Rattle.store.specs.Stores.{full, size, used}
 use Rattle.book.specs.Kinds.{board_kind}
 use Rattle.book.specs.Views.{board_view}
-use Rattle.book.proofs.Boards.{sound, sound_edited, sound_upserted, viewed_cond}
+use Rattle.book.proofs.Boards.{sound, sound_upserted, viewed_cond}
 use Rattle.book.proofs.board_book.BoardBook.apply.Goals as goal
-
-pub invariant_of-self-in-EveryRow : goal.invariant_of-self-in-EveryRow
-invariant_of-self-in-EveryRow c =
-    let b = c.args.self.now in
-    let e = c.edit_all.ensures in
-    let s = sound_edited b.store c.edit_all.new.self (does c.hear-message.result) (sound b) e.used e.spare e.count e.size in
-    record { some = s.some; few = s.few; within = s.within; sorted = s.sorted; rest = s.rest }
 
 pub invariant_of-self-in-Row : goal.invariant_of-self-in-Row
 invariant_of-self-in-Row c =
     let b = c.args.self.now in
     let e = c.edit_one.ensures in
-    let s = sound_upserted b.store c.edit_one.new.self c.in-Row.symbol.now (does c.hear-message.result) (sound b) e.used e.spare e.size e.within e.grows in
-    record { some = s.some; few = s.few; within = s.within; sorted = s.sorted; rest = s.rest }
+    let s = sound_upserted b.store c.edit_one.new.self (sound b) e.spare e.size e.grows in
+    record { some = s.some; few = s.few; rest = s.rest }
 
 pub returns-in-Nothing : goal.returns-in-Nothing
 returns-in-Nothing c =

@@ -1,4 +1,9 @@
+use Rattle.std.proofs.Common.{[], ◌∷◌, map, Some, option_to_list, unwrap_or, sym, ap, ◌∙◌}
+use Rattle.std.proofs.lemmas.Bool.{both_ways}
+use Rattle.std.proofs.lemmas.Bool.Decides.{Decides-eqb}
+use Rattle.std.proofs.lemmas.Slice.Eq.{slice_eq-Decides}
 use Rattle.market.specs.Aims.{does}
+use Rattle.market.specs.Effects.{edited}
 use Rattle.book.proofs.Watches.{on_nothing, on_clock, on_every_row, on_own_row, on_other_row}
 use Rattle.book.proofs.watch_book.WatchBook.apply.Goals as goal
 
@@ -12,17 +17,34 @@ returns-in-Clock c =
     let o = on_clock c.args.self.now c.args.message.now (does c.hear-message.result) c.hear-message.ensures _ c.in-Clock.ensures c.tick.ensures in
     record { answer = o.answer; effect = o.effect }
 
-pub returns-in-EveryRow : goal.returns-in-EveryRow
-returns-in-EveryRow c =
-    let o = on_every_row c.args.self.now c.args.message.now (does c.hear-message.result) c.hear-message.ensures _ c.in-EveryRow.ensures c.edit.ensures in
+pub returns-in-Some : goal.returns-in-Some
+returns-in-Some c =
+    let w = c.args.self.now in
+    let e = does c.hear-message.result in
+    let set = ap (λ r. r ∷ []) c.edit.ensures ∙ ap (λ o. map (edited e) (option_to_list o)) (sym c.in-Some.is) in
+    let o = on_every_row w c.args.message.now e c.hear-message.ensures (Some c.edit.new.self) c.in-EveryRow.ensures set in
     record { answer = o.answer; effect = o.effect }
 
-pub returns-then-same_symbol : goal.returns-then-same_symbol
-returns-then-same_symbol c =
-    let o = on_own_row c.args.self.now c.args.message.now (does c.hear-message.result) c.hear-message.ensures c.in-Row.symbol.now _ c.in-Row.ensures c.if-same_symbol.ensures c.edit_or_make.ensures in
+pub returns-in_default : goal.returns-in_default
+returns-in_default c =
+    let w = c.args.self.now in
+    let e = does c.hear-message.result in
+    let none = ap option_to_list c.in_default.is ∙ ap (λ o. map (edited e) (option_to_list o)) (sym c.in_default.is) in
+    let o = on_every_row w c.args.message.now e c.hear-message.ensures w.row c.in-EveryRow.ensures none in
     record { answer = o.answer; effect = o.effect }
 
-pub returns-else-same_symbol : goal.returns-else-same_symbol
-returns-else-same_symbol c =
-    let o = on_other_row c.args.self.now c.args.message.now (does c.hear-message.result) c.hear-message.ensures c.in-Row.symbol.now c.in-Row.ensures c.if-same_symbol.ensures in
+pub returns-then-eq : goal.returns-then-eq
+returns-then-eq c =
+    let w = c.args.self.now in
+    let e = does c.hear-message.result in
+    let equal = slice_eq-Decides Decides-eqb c.in-Row.symbol.now w.symbol c.eq.result c.eq.ensures in
+    let made = c.edit-then-eq.ensures ∙ ap (edited e) (c.unwrap_or-row.ensures ∙ ap (unwrap_or w.row) c.new.ensures) in
+    let o = on_own_row w c.args.message.now e c.hear-message.ensures c.in-Row.symbol.now _ c.in-Row.ensures (sym (equal.0 c.if-eq.true)) made in
+    record { answer = o.answer; effect = o.effect }
+
+pub returns-else-eq : goal.returns-else-eq
+returns-else-eq c =
+    let w = c.args.self.now in
+    let equal = slice_eq-Decides Decides-eqb c.in-Row.symbol.now w.symbol c.eq.result c.eq.ensures in
+    let o = on_other_row w c.args.message.now (does c.hear-message.result) c.hear-message.ensures c.in-Row.symbol.now c.in-Row.ensures (λ same. both_ways c.eq.result c.if-eq.false (equal.1 (sym same))) in
     record { answer = o.answer; effect = o.effect }

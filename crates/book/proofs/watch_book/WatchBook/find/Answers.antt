@@ -1,25 +1,27 @@
-use Rattle.std.proofs.Common.{◌≡◌, true, is_some, None, unwrap_or, sym, refl, ap}
-use Rattle.std.proofs.lemmas.Bool.{both_ways}
-use Rattle.market.specs.Market.{lookup}
-use Rattle.book.specs.Views.{inner}
-use Rattle.book.proofs.Watches.{find_none, find_some}
+use Rattle.std.proofs.Common.{cond, is_some, None, unwrap_or, sym, refl, ap, ◌∙◌}
+use Rattle.std.proofs.lemmas.Bool.Decides.{Decides-eqb}
+use Rattle.std.proofs.lemmas.Slice.Eq.{slice_eq-Decides}
+use Rattle.book.proofs.Watches.{find_is}
 use Rattle.book.proofs.watch_book.WatchBook.find.Goals as goal
-use Rattle.book.proofs.watch_book.WatchBook.find.Goals.{then-not-self-via-then-not-self, then-not-self-via-else-not-self+then-not-same_symbol}
 
-pub returns-then-not-self : goal.returns-then-not-self
-returns-then-not-self c =
+pub returns-then-eq : goal.returns-then-eq
+returns-then-eq c =
+    let w = c.args.self.now in
     let s = c.args.symbol.now in
-    let w = c.args.self.now in
-    let out : w.present ≡ true → w.row.symbol ≡ s → ⊥ =
-    elim c.then-not-self.branch [
-      | then-not-self-via-then-not-self q ↦ λ p _. both_ways w.present q.if-not-self.true p
-      | then-not-self-via-else-not-self+then-not-same_symbol q ↦ λ _ e. q.if-not-same_symbol.ensures e
-    ] in
-    let none : lookup s (inner w.present w.row) ≡ None = find_none s w.present w.row out in
-    record { answer = sym (ap is_some none); into = sym (ap (λ o. unwrap_or o c.args.into.now) none); unchanged = refl }
+    let found = find_is s w.symbol w.row c.eq.result w.own (slice_eq-Decides Decides-eqb s w.symbol c.eq.result c.eq.ensures) ∙ ap (λ b. cond b w.row None) c.if-eq.true in
+    record {
+      answer = c.fill.ensures.answer ∙ c.as_ref.ensures.variant ∙ sym (ap is_some found);
+      into = c.fill.ensures.into ∙ ap (λ o. unwrap_or o c.args.into.now) (c.as_ref.ensures.value ∙ sym found);
+      unchanged = refl;
+    }
 
-pub returns : goal.returns
-returns c =
+pub returns-else-eq : goal.returns-else-eq
+returns-else-eq c =
     let w = c.args.self.now in
-    let some = find_some c.args.symbol.now w.present w.row c.if-not-self.false c.if-not-same_symbol.ensures in
-    record { answer = sym (ap is_some some); into = sym (ap (λ o. unwrap_or o c.args.into.now) some); unchanged = refl }
+    let s = c.args.symbol.now in
+    let none = find_is s w.symbol w.row c.eq.result w.own (slice_eq-Decides Decides-eqb s w.symbol c.eq.result c.eq.ensures) ∙ ap (λ b. cond b w.row None) c.if-eq.false in
+    record {
+      answer = c.if-eq.false ∙ sym (ap is_some none);
+      into = sym (ap (λ o. unwrap_or o c.args.into.now) none);
+      unchanged = refl;
+    }

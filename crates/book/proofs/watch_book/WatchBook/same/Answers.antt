@@ -1,10 +1,10 @@
-use Rattle.std.proofs.Common.{refl}
+use Rattle.std.proofs.lemmas.Bool.Decides.{Decides-eqb}
+use Rattle.std.proofs.lemmas.Slice.Eq.{slice_eq-Decides}
 use Rattle.book.proofs.Watches.{same_follows}
 use Rattle.book.proofs.watch_book.WatchBook.same.Goals as goal
 
-pub returns : goal.returns
-returns c = record {
-  answer = same_follows c.args.self.now.row.symbol c.args.other.now.row.symbol c.same_symbol.result c.same_symbol.ensures;
-  unchanged = refl;
-  other_unchanged = refl;
-}
+pub returns-clause-answer : goal.returns-clause-answer
+returns-clause-answer c =
+    let a = c.args.self.now.symbol in
+    let b = c.args.other.now.symbol in
+    same_follows a b c.eq.result (slice_eq-Decides Decides-eqb a b c.eq.result c.eq.ensures)

@@ -1,19 +1,19 @@
-use Rattle.std.proofs.Common.{map, take, drop, refl, ap, ◌∙◌}
-use Rattle.std.proofs.lemmas.List.{take_at, drop_at}
+use Rattle.std.proofs.Common.{◌≡◌, length, drop, ap, ◌∙◌, length-append, arith}
+use Rattle.std.proofs.lemmas.List.{length-take-le, take_at}
 use Rattle.market.specs.Aims.{does}
 use Rattle.market.specs.Effects.{edited}
-use Rattle.store.proofs.Steps.{length_mapped}
+use Rattle.market.specs.Market.{ascends}
+use Rattle.market.proofs.Held.{edited_keeps}
+use Rattle.market.proofs.Rows.{ascends_map}
+use Rattle.store.specs.Stores.{used}
 use Rattle.store.proofs.store.Store.edit_all.Goals as goal
 
-pub returns : goal.returns
-returns c =
-    let rows = c.args.self.now.rows.now in
-    let n = c.args.self.now.count in
-    let f = edited (does c.args.message.now) in
-    let long = length_mapped f n rows c.requires.within in
+pub invariant_of-self : goal.invariant_of-self
+invariant_of-self c =
+    let st = c.args.self.now in
+    let e = does c.args.message.now in
+    let long : length c.edit_rows.new.rows ≡ st.count = c.edit_rows.auto.rows ∙ length-take-le st.count st.rows.now st.within in
     record {
-      used = ap (take n) c.edit_rows.ensures ∙ take_at (map f (take n rows)) (drop n rows) n long;
-      spare = ap (drop n) c.edit_rows.ensures ∙ drop_at (map f (take n rows)) (drop n rows) n long;
-      count = refl;
-      size = c.edit_rows.auto.rows;
+      within = simp length-append (omega arith);
+      sorted = ap ascends (take_at c.edit_rows.new.rows (drop st.count st.rows.now) st.count long) ∙ ap ascends c.edit_rows.ensures ∙ ascends_map (edited e) (edited_keeps e) (used st) ∙ st.sorted;
     }

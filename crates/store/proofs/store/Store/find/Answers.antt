@@ -1,22 +1,17 @@
-use Rattle.std.proofs.Common.{is_some, unwrap_or, sym, ap}
+use Rattle.std.proofs.Common.{◌≡◌, ℕ, Some, Ok, Err, Result, sym, ◌∙◌}
+use Rattle.std.proofs.lemmas.Option.{slice_get-get_or}
+use Rattle.std.specs.Result.{result_ok}
+use Rattle.market.specs.Effects.{blank}
 use Rattle.store.specs.Stores.{used}
-use Rattle.store.proofs.Steps.{read_found, read_missed}
+use Rattle.store.proofs.Steps.{found, found_row}
 use Rattle.store.proofs.store.Store.find.Goals as goal
 
-pub returns-in-Ok : goal.returns-in-Ok
-returns-in-Ok c =
-    let st = c.args.self.now in
-    let e = c.in-Ok.ensures in
-    let is = read_found c.args.symbol.now st.rows.now st.count c.in-Ok.at _ c.requires.within c.requires.sorted e.place e.within in
-    record {
-      answer = sym (ap is_some is);
-      into = sym (ap (λ o. unwrap_or o c.args.into.now) is);
-    }
+ok_is : (r : Result ℕ ℕ) (at : ℕ) → Some at ≡ result_ok r → Ok at ≡ r
+ok_is (Ok i) at e = cc
+ok_is (Err i) at e = cc
 
-pub returns-in-Err : goal.returns-in-Err
-returns-in-Err c =
-    let is = read_missed c.args.symbol.now (used c.args.self.now) _ c.in-Err.ensures.place in
-    record {
-      answer = sym (ap is_some is);
-      into = sym (ap (λ o. unwrap_or o c.args.into.now) is);
-    }
+pub returns : goal.returns
+returns c =
+    let rs = used c.args.self.now in
+    let there = found c.args.symbol.now rs c.in_ok-at.at c.args.self.now.sorted (ok_is c.seek.result c.in_ok-at.at c.in_ok-at.ensures.value ∙ c.seek.ensures) in
+    c.row_at.ensures ∙ slice_get-get_or rs c.in_ok-at.at blank there.inside ∙ sym (found_row _ rs _ there)
