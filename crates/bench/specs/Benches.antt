@@ -49,3 +49,8 @@ closed (Some t) s = counted s (not (bytes_eq t.said t.expected))
 -- what is told of a line that is of no use
 abbrev pub fault : ℕ → List ℕ → List ℕ
 fault number why = codes "line " ++ (decimal number ++ (codes ": " ++ (why ++ codes "\n")))
+
+-- what is told of a line that is expected: nothing, unless nothing is under trial
+abbrev pub stray : Option Trying → ℕ → List ℕ → List ℕ
+stray None number lacks = fault number lacks
+stray (Some t) number lacks = []

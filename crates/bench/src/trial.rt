@@ -1,5 +1,5 @@
 // What is said on a line, and the lines that are expected of it.
-ghost use Rattle.bench.specs.Benches.{score_of, text_of, trial_of, trial, tried, with_line, closed, difference, told, fault};
+ghost use Rattle.bench.specs.Benches.{score_of, text_of, trial_of, trial, tried, with_line, closed, difference, told, fault, stray};
 ghost use Rattle.bench.specs.Scores.{counted, no_vector};
 ghost use Rattle.std.specs.Option.{option_map};
 ghost use Rattle.std.specs.Prelude.{◌≡◌, ◌++◌, [], Some, true, MatchOption, OnOk, string_bytes};
@@ -87,6 +87,7 @@ impl Bench {
     /// Takes a line that is expected of the one under trial. With none, the line is a fault, told in the words of `lacks`.
     pub fn expect(&mut self, number: u64, line: &str, lacks: &str) -> Result<(), AllocError>
         ensures score { MatchOption (trial_of self.old) (score_of self.new ≡ counted (score_of self.old) true) (λ _. score_of self.new ≡ score_of self.old) }
+        ensures text { OnOk result (text_of self.new ≡ text_of self.old ++ stray (trial_of self.old) number lacks.now) }
         ensures trial { OnOk result (trial_of self.new ≡ option_map (with_line line.now) (trial_of self.old)) }
     {
         match &mut self.trial {
