@@ -32,9 +32,14 @@ impl Book for Watch {
             }
             Target::Row(symbol) => {
                 if *symbol == self.symbol {
-                    let mut row = self.row.unwrap_or(Row::new(symbol));
-                    row.edit(&message);
-                    self.row = Some(row);
+                    match &mut self.row {
+                        Some(row) => row.edit(&message),
+                        None => {
+                            let mut row = Row::new(symbol);
+                            row.edit(&message);
+                            self.row = Some(row);
+                        }
+                    }
                 }
             }
         }

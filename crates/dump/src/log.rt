@@ -1,46 +1,50 @@
 // What is said of a recording, line by line.
 use recording::{BadLine, Heard, Listener, Tally};
-use std::alloc::Global;
-use std::io;
-use std::io::Write;
+use std::alloc::{AllocError, Global};
 use wire_report::{Indented, describe};
 
-/// Where it is said what a recording holds, and what there was so far.
+/// The text that has been said and not been printed, and what there was so far.
 #[derive(Drop)]
-pub struct Log<W> {
+pub struct Log {
     heap: Global,
-    out: W,
+    text: String,
     tally: Tally,
 }
 
-impl<W: Write> Log<W> {
-    pub fn new(heap: Global, out: W) -> Log<W> {
+impl Log {
+    pub fn new(heap: Global) -> Log {
         Log {
             heap,
-            out,
+            text: String::new(heap),
             tally: Tally::default(),
         }
     }
 
-    /// Says how many blocks and lines there were.
-    pub fn close(&mut self) -> io::Result<()> {
-        writeln!(self.out, "{}", self.tally)?;
-        self.out.flush()
+    pub fn text(&self) -> &str {
+        self.text.as_str()
+    }
+
+    pub fn clear(&mut self) {
+        self.text.clear();
+    }
+
+    pub fn tally(&self) -> Tally {
+        self.tally
     }
 }
 
-impl<W: Write> Listener for Log<W> {
-    fn hear_block(&mut self, heard: Heard<'_>) -> io::Result<()> {
+impl Listener for Log {
+    fn hear_block(&mut self, heard: Heard<'_>) -> Result<(), AllocError> {
         let report = describe(self.heap, heard.unit, heard.block)?;
         match report.messages {
             Some(messages) => self.tally.accept(messages),
             None => self.tally.refuse(),
         }
-        write!(self.out, "{heard}\n{}", Indented(report.text.as_str()))
+        write!(self.text, "{heard}\n{}", Indented(report.text.as_str()))
     }
 
-    fn hear_bad(&mut self, number: u64, bad: BadLine) -> io::Result<()> {
+    fn hear_bad(&mut self, number: u64, bad: BadLine) -> Result<(), AllocError> {
         self.tally.misread();
-        writeln!(self.out, "line {number}: {bad}")
+        writeln!(self.text, "line {number}: {bad}")
     }
 }

@@ -5,8 +5,8 @@ mod log;
 
 use crate::log::Log;
 use anyhow::anyhow;
-use recording::Recording;
-use std::io::{BufRead, BufReader, BufWriter, Read};
+use recording::{PIECE, Recording};
+use std::io::{BufRead, BufReader, Read, Write};
 use std::{env, fs, io};
 
 fn main(rt: HostRuntime) -> anyhow::Result<()> {
@@ -27,13 +27,23 @@ fn run(rt: &HostRuntime) -> anyhow::Result<()> {
 }
 
 fn dump<R: Read + Drop>(rt: &HostRuntime, input: R) -> anyhow::Result<()> {
-    let input = BufReader::new(rt.alloc(), input)?;
-    let out = BufWriter::new(rt.alloc(), io::writer(rt))?;
+    let mut input = BufReader::new(rt.alloc(), input)?;
     let mut recording = Recording::new(rt.alloc());
-    let mut log = Log::new(rt.alloc(), out);
-    for (number, line) in (1..u64::MAX).zip(input.split(rt.alloc(), b'\n')) {
-        recording.add_line(&mut log, number, line?.as_slice())?;
+    let mut log = Log::new(rt.alloc());
+    let mut out = io::writer(rt);
+    let mut line = Vec::new(rt.alloc());
+    for number in 1..u64::MAX {
+        line.clear();
+        if input.read_until(b'\n', &mut line)? == 0 {
+            break;
+        }
+        recording.add_line(&mut log, number, line.as_slice())?;
+        if log.text().len() >= PIECE {
+            out.write_all(log.text().as_bytes())?;
+            log.clear();
+        }
     }
-    log.close()?;
+    out.write_all(log.text().as_bytes())?;
+    rt.println(log.tally())?;
     Ok(())
 }

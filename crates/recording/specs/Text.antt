@@ -1,6 +1,5 @@
 -- Words and the blanks between them. Assumes nothing.
 use Rattle.std.specs.Prelude.{ℕ, Bool, true, cond, ◌||◌, List, [], ◌∷◌, Some, None, Option, ◌==◌}
-use Rattle.std.specs.List.{position_or_len}
 
 -- space, tab, carriage return, line feed
 abbrev pub blank : ℕ → Bool
@@ -21,7 +20,3 @@ unfoldable pub behind_word : List ℕ → List ℕ → Option (List ℕ)
 behind_word [] rest = cond (word_ends rest) (Some rest) None
 behind_word (w ∷ ws) [] = None
 behind_word (w ∷ ws) (b ∷ bs) = cond (b == w) (behind_word ws bs) None
-
--- how long the word is that a text begins with
-abbrev pub word_len : List ℕ → ℕ
-word_len text = position_or_len blank text

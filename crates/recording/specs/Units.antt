@@ -14,11 +14,6 @@ abbrev pub with_number : {X : Type 0} → Option ℕ → (ℕ → Option X) → 
 with_number None f = None
 with_number (Some n) f = f n
 
--- a number whose digits go on to the end
-unfoldable pub digits_number : ℕ → List ℕ → Option ℕ
-digits_number n [] = Some n
-digits_number n (b ∷ bs) = with_number (appended_digit n (digit_of b)) (λ m. digits_number m bs)
-
 -- a number whose digits go on, up to a blank behind which nothing but blanks may stand
 unfoldable pub more_digits : ℕ → List ℕ → Option ℕ
 more_digits n [] = Some n

@@ -10,5 +10,5 @@ mod unit;
 
 pub use hex::{bytes_of_hex, nibble};
 pub use line::{BadLine, Line, parse_line};
-pub use listening::{Heard, Listener, Recording};
+pub use listening::{Heard, Listener, PIECE, Recording};
 pub use tally::Tally;

@@ -6,8 +6,11 @@ ghost use Rattle.wire_types.specs.declared.header.Carrier.{Carrier};
 
 use crate::line::{BadLine, Line, parse_line};
 use std::alloc::{AllocError, Global};
-use std::{fmt, io};
+use std::fmt;
 use wire_types::Block;
+
+/// How much text of what is said a program collects before it prints it.
+pub const PIECE: usize = 65536;
 
 /// A block as it is heard: the number of its line, the unit that it is to be checked against if one was named, and the block.
 #[derive(Clone, Copy)]
@@ -36,10 +39,10 @@ pub trait Listener {
     /// What a line that says nothing does to it.
     ghost bad_gives: { Self → Self → Type 0 } = { λ s t. Unit {0} };
 
-    fn hear_block(&mut self, heard: Heard<'_>) -> io::Result<()>
+    fn hear_block(&mut self, heard: Heard<'_>) -> Result<(), AllocError>
         ensures { OnOk result (block_gives self.old heard.entry.unit heard.entry.block.carrier heard.entry.block.bytes.now self.new) };
 
-    fn hear_bad(&mut self, number: u64, bad: BadLine) -> io::Result<()>
+    fn hear_bad(&mut self, number: u64, bad: BadLine) -> Result<(), AllocError>
         ensures { OnOk result (bad_gives self.old self.new) };
 }
 
@@ -65,7 +68,7 @@ impl Recording {
         listener: &mut L,
         number: u64,
         line: &[u8],
-    ) -> io::Result<()>
+    ) -> Result<(), AllocError>
         ensures unit { OnOk result (unit_of self.new ≡ unit_after (line_of line.now) (unit_of self.old)) }
         ensures heard { OnOk result (Hears L.block_gives L.bad_gives (line_of line.now) (unit_of self.old) listener.old listener.new) }
     {
@@ -83,7 +86,7 @@ impl Recording {
                     bytes: bytes.as_slice(),
                 },
             }),
-            Err(BadLine::Memory) => Err(AllocError.into()),
+            Err(BadLine::Memory) => Err(AllocError),
             Err(bad) => listener.hear_bad(number, bad),
         }
     }
@@ -99,15 +102,13 @@ mod tests {
     struct Ear(String);
 
     impl Listener for Ear {
-        fn hear_block(&mut self, heard: Heard<'_>) -> io::Result<()> {
+        fn hear_block(&mut self, heard: Heard<'_>) -> Result<(), AllocError> {
             let unit = heard.unit.unwrap_or(0);
-            writeln!(self.0, "{heard} for unit {unit}")?;
-            Ok(())
+            writeln!(self.0, "{heard} for unit {unit}")
         }
 
-        fn hear_bad(&mut self, number: u64, bad: BadLine) -> io::Result<()> {
-            writeln!(self.0, "line {number}: {bad}")?;
-            Ok(())
+        fn hear_bad(&mut self, number: u64, bad: BadLine) -> Result<(), AllocError> {
+            writeln!(self.0, "line {number}: {bad}")
         }
     }
 

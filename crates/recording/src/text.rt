@@ -1,7 +1,7 @@
 // Words and the blanks between them.
-ghost use Rattle.recording.specs.Text.{blank, unblanked, behind_word, word_ends, word_len};
+ghost use Rattle.recording.specs.Text.{blank, unblanked, behind_word, word_ends};
 ghost use Rattle.std.specs.Option.{option_map};
-ghost use Rattle.std.specs.Prelude.{◌≡◌, take, drop};
+ghost use Rattle.std.specs.Prelude.{◌≡◌};
 
 /// Whether a byte stands between words: a space, a tab, or the end of a line.
 pub(crate) fn is_blank(b: u8) -> bool
@@ -16,15 +16,6 @@ pub(crate) fn skip_blanks(text: &[u8]) -> &[u8]
 {
     let start = text.iter().position(|b| !is_blank(*b));
     &text[start.unwrap_or(text.len())..]
-}
-
-/// The word that a text begins with, up to a blank or the end, and what stands behind it.
-pub(crate) fn split_word(text: &[u8]) -> (&[u8], &[u8])
-    ensures word { result.0.now ≡ take (word_len text.now) text.now }
-    ensures rest { result.1.now ≡ drop (word_len text.now) text.now }
-{
-    let end = text.iter().position(|b| is_blank(*b));
-    text.split_at(end.unwrap_or(text.len()))
 }
 
 /// What stands behind a word that the text begins with, where the word ends there.

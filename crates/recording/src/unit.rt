@@ -1,26 +1,28 @@
 // The number of a unit in decimal digits.
 ghost use Rattle.std.specs.Prelude.{◌≡◌, ◌<◌, IfSome};
-ghost use Rattle.recording.specs.Units.{unit_number, digits_number, appended_digit, digit_of};
+ghost use Rattle.recording.specs.Units.{unit_number, more_digits, appended_digit, digit_of};
 
-use crate::text::{skip_blanks, split_word};
+use crate::text::{is_blank, skip_blanks};
 
 /// The number from 0 to 255 that the text writes in digits, with blanks around it.
 pub(crate) fn unit_number(text: &[u8]) -> Option<u8>
     ensures { result ≡ unit_number text.now }
 {
-    let (digits, rest) = split_word(skip_blanks(text));
-    if digits.is_empty() || !skip_blanks(rest).is_empty() {
-        return None;
-    }
-    digits_number(digits)
+    let (first, rest) = skip_blanks(text).split_first()?;
+    more_digits(digit_value(*first)?, rest)
 }
 
-fn digits_number(digits: &[u8]) -> Option<u8>
-    ensures { result ≡ digits_number 0 digits.now }
+/// A number with the digits that go on, up to a blank behind which nothing but blanks may stand.
+/// What stands behind the first byte that will not do is not looked at.
+fn more_digits(first: u8, text: &[u8]) -> Option<u8>
+    ensures { result ≡ more_digits first text.now }
 {
-    let mut number = 0u8;
-    for digit in digits {
-        number = appended(number, *digit)?;
+    let mut number = first;
+    for (place, byte) in text.iter().enumerate() {
+        if is_blank(*byte) {
+            return skip_blanks(&text[place..]).is_empty().then_some(number);
+        }
+        number = appended(number, *byte)?;
     }
     Some(number)
 }

@@ -5,4 +5,5 @@ mod calls;
 mod place;
 mod store;
 
+pub use place::blank_rows;
 pub use store::Store;

@@ -27,9 +27,9 @@ pub(crate) fn edit_rows(rows: &mut [Row], message: &Message<'_>)
     }
 }
 
-/// Blanks every row.
-pub(crate) fn blank_rows(rows: &mut [Row])
+/// Blanks every row: a new row whose symbol is six spaces.
+pub fn blank_rows(rows: &mut [Row])
     ensures { rows.new ≡ replicate (length rows.old) blank }
 {
-    rows.fill_with(Row::blank);
+    rows.fill(Row::blank());
 }

@@ -7,8 +7,8 @@ use market::Row;
 /// Rows that are lent, of which the first `count` are in use and ascend.
 #[derive(Drop)]
 pub struct Store<'a> {
-    pub(crate) rows: &'a mut [Row],
-    pub(crate) count: usize,
+    pub rows: &'a mut [Row],
+    pub count: usize,
     pub ghost within: { count ≤ length rows.now },
     pub ghost sorted: { ascends (take count rows.now) ≡ true },
 }

@@ -2,7 +2,7 @@
 use bench::Bench;
 use recording::{BadLine, Heard, Listener};
 use std::alloc::{AllocError, Global};
-use std::{io, str};
+use std::str;
 use wire_report::describe;
 
 /// The blocks of a recording, on a bench.
@@ -43,16 +43,14 @@ impl Blocks {
 }
 
 impl Listener for Blocks {
-    fn hear_block(&mut self, heard: Heard<'_>) -> io::Result<()> {
+    fn hear_block(&mut self, heard: Heard<'_>) -> Result<(), AllocError> {
         let report = describe(self.heap, heard.unit, heard.block)?;
-        self.bench.begin(heard.number, report.text)?;
-        Ok(())
+        self.bench.begin(heard.number, report.text)
     }
 
-    fn hear_bad(&mut self, number: u64, bad: BadLine) -> io::Result<()> {
+    fn hear_bad(&mut self, number: u64, bad: BadLine) -> Result<(), AllocError> {
         self.bench.close()?;
         let why = format!(in self.heap; "{bad}")?;
-        self.bench.add_fault(number, why.as_str())?;
-        Ok(())
+        self.bench.add_fault(number, why.as_str())
     }
 }

@@ -12,11 +12,15 @@ fn main(rt: HostRuntime) -> anyhow::Result<()> {
 }
 
 fn run(rt: &HostRuntime) -> anyhow::Result<()> {
-    let input = BufReader::new(rt.alloc(), rt.stdin())?;
+    let mut input = BufReader::new(rt.alloc(), rt.stdin())?;
     let mut recording = Recording::new(rt.alloc());
     let mut blocks = Blocks::new(rt.alloc());
-    for (number, line) in (1..u64::MAX).zip(input.split(rt.alloc(), b'\n')) {
-        let line = line?;
+    let mut line = Vec::new(rt.alloc());
+    for number in 1..u64::MAX {
+        line.clear();
+        if input.read_until(b'\n', &mut line)? == 0 {
+            break;
+        }
         match line.strip_prefix(b"= ") {
             Some(expected) => blocks.expect(number, expected)?,
             None => recording.add_line(&mut blocks, number, line.as_slice())?,

@@ -9,9 +9,7 @@ use crate::show::show_market;
 use book::Book;
 use play::{Taken, take_block};
 use recording::{BadLine, Heard, Listener, Recording, Tally};
-use std::alloc::Global;
-use std::io;
-use std::io::Write;
+use std::alloc::{AllocError, Global};
 
 /// How many blocks, messages and lines there were, by what became of them.
 #[derive(Clone, Copy, Default)]
@@ -23,21 +21,31 @@ pub struct Total {
     pub declined: u64,
 }
 
-/// A book that a recording is played to, where that is told of, and what there was so far.
+/// A book that a recording is played to, the text that has been said and not been printed, and what there was so far.
 #[derive(Drop)]
-pub struct Log<B, W> {
+pub struct Log<B> {
+    heap: Global,
     book: B,
-    out: W,
+    text: String,
     total: Total,
 }
 
-impl<B: Book, W: Write> Log<B, W> {
-    pub fn new(book: B, out: W) -> Log<B, W> {
+impl<B: Book> Log<B> {
+    pub fn new(heap: Global, book: B) -> Log<B> {
         Log {
+            heap,
             book,
-            out,
+            text: String::new(heap),
             total: Total::default(),
         }
+    }
+
+    pub fn text(&self) -> &str {
+        self.text.as_str()
+    }
+
+    pub fn clear(&mut self) {
+        self.text.clear();
     }
 
     /// Plays a line of the recording to the book. What is refused, does not fit or is not understood is told.
@@ -46,21 +54,19 @@ impl<B: Book, W: Write> Log<B, W> {
         recording: &mut Recording,
         number: u64,
         line: &[u8],
-    ) -> io::Result<()>
+    ) -> Result<(), AllocError>
         ensures unit { OnOk result (unit_of recording.new ≡ unit_after (line_of line.now) (unit_of recording.old)) }
         ensures book { OnOk result (B.view self.new.book ≡ line_played (line_of line.now) (unit_of recording.old) (B.view self.old.book)) }
     {
         recording.add_line(self, number, line)
     }
 
-    /// Shows the market, and what there was in the recording.
-    pub fn close(&mut self, heap: Global) -> io::Result<()> {
-        let market = show_market(heap, &mut self.book, self.total)?;
-        self.out.write_all(market.as_bytes())?;
-        self.out.flush()
+    /// The market, and what there was in the recording.
+    pub fn market(&mut self) -> Result<String, AllocError> {
+        show_market(self.heap, &mut self.book, self.total)
     }
 
-    fn add_taken(&mut self, heard: Heard<'_>, taken: Taken) -> io::Result<()>
+    fn add_taken(&mut self, heard: Heard<'_>, taken: Taken) -> Result<(), AllocError>
         ensures { self.new.book ≡ self.old.book }
     {
         let count = taken.header.count;
@@ -75,30 +81,30 @@ impl<B: Book, W: Write> Log<B, W> {
         let count = declined.count;
         self.total.declined = self.total.declined.saturating_add(u64::from(count));
         writeln!(
-            self.out,
+            self.text,
             "{heard}\n  {count} messages did not fit, the first at place {}",
             declined.first
         )
     }
 }
 
-impl<B: Book, W: Write> Listener for Log<B, W> {
+impl<B: Book> Listener for Log<B> {
     ghost block_gives = { λ s unit carrier bytes t. B.view t.book ≡ taken_in carrier unit bytes (B.view s.book) };
 
     ghost bad_gives = { λ s t. B.view t.book ≡ B.view s.book };
 
-    fn hear_block(&mut self, heard: Heard<'_>) -> io::Result<()> {
+    fn hear_block(&mut self, heard: Heard<'_>) -> Result<(), AllocError> {
         match take_block(&mut self.book, heard.unit, heard.block) {
             Ok(taken) => self.add_taken(heard, taken),
             Err(fault) => {
                 self.total.tally.refuse();
-                writeln!(self.out, "{heard}\n  {fault}")
+                writeln!(self.text, "{heard}\n  {fault}")
             }
         }
     }
 
-    fn hear_bad(&mut self, number: u64, bad: BadLine) -> io::Result<()> {
+    fn hear_bad(&mut self, number: u64, bad: BadLine) -> Result<(), AllocError> {
         self.total.tally.misread();
-        writeln!(self.out, "line {number}: {bad}")
+        writeln!(self.text, "line {number}: {bad}")
     }
 }

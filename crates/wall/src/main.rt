@@ -10,8 +10,8 @@ use crate::options::{Follow, parse_options};
 use anyhow::anyhow;
 use book::{Board, Book, MOST_ROWS, Watch, check_rows};
 use market::Row;
-use recording::Recording;
-use std::io::{BufRead, BufReader, BufWriter, Read};
+use recording::{PIECE, Recording};
+use std::io::{BufRead, BufReader, Read, Write};
 use std::{env, fs, io};
 
 fn main(rt: HostRuntime) -> anyhow::Result<()> {
@@ -50,13 +50,23 @@ fn play_lines<B: Book + Drop, R: Read + Drop>(
     book: B,
     input: R,
 ) -> anyhow::Result<()> {
-    let input = BufReader::new(rt.alloc(), input)?;
-    let out = BufWriter::new(rt.alloc(), io::writer(rt))?;
+    let mut input = BufReader::new(rt.alloc(), input)?;
     let mut recording = Recording::new(rt.alloc());
-    let mut log = Log::new(book, out);
-    for (number, line) in (1..u64::MAX).zip(input.split(rt.alloc(), b'\n')) {
-        log.add_line(&mut recording, number, line?.as_slice())?;
+    let mut log = Log::new(rt.alloc(), book);
+    let mut out = io::writer(rt);
+    let mut line = Vec::new(rt.alloc());
+    for number in 1..u64::MAX {
+        line.clear();
+        if input.read_until(b'\n', &mut line)? == 0 {
+            break;
+        }
+        log.add_line(&mut recording, number, line.as_slice())?;
+        if log.text().len() >= PIECE {
+            out.write_all(log.text().as_bytes())?;
+            log.clear();
+        }
     }
-    log.close(rt.alloc())?;
+    out.write_all(log.text().as_bytes())?;
+    out.write_all(log.market()?.as_bytes())?;
     Ok(())
 }

@@ -1,17 +1,29 @@
-// Cells of a row: a quote, the last trade, the settlement and the limits.
+// Cells of a row: quotes, the last trade, the settlement and the limits. A dash stands where there is none.
 ghost use Rattle.std.specs.Prelude.{Some};
 ghost use Rattle.wall_words.specs.Cells.{quote_cell, trade_cell, settlement_cell, limits_cell};
 
 use market::{Limits, Settlement};
 use std::fmt;
 use wire_types::{LastTrade, Quote};
-use wire_words::price;
+use wire_words::{OrDash, price};
+
+/// What stands in a cell that is not empty.
+#[derive(Clone, Copy)]
+pub(crate) struct Value<T>(pub(crate) T);
 
 /// A bid or an ask: its price and its quantity.
 #[derive(Clone, Copy)]
-pub struct QuoteCell(pub Quote);
+pub struct QuoteCell(pub Option<Quote>);
 
 impl fmt::Display for QuoteCell {
+    ghost output = { λ x. Some (quote_cell x.0) };
+
+    fn fmt<W: fmt::Write>(&self, f: &mut fmt::Formatter<W>) -> fmt::Result {
+        OrDash(self.0.map(Value)).fmt(f)
+    }
+}
+
+impl fmt::Display for Value<Quote> {
     ghost output = { λ x. Some (quote_cell (Some x.0)) };
 
     fn fmt<W: fmt::Write>(&self, f: &mut fmt::Formatter<W>) -> fmt::Result {
@@ -22,9 +34,17 @@ impl fmt::Display for QuoteCell {
 
 /// The last trade: its price, its size and how it came about.
 #[derive(Clone, Copy)]
-pub struct TradeCell(pub LastTrade);
+pub struct TradeCell(pub Option<LastTrade>);
 
 impl fmt::Display for TradeCell {
+    ghost output = { λ x. Some (trade_cell x.0) };
+
+    fn fmt<W: fmt::Write>(&self, f: &mut fmt::Formatter<W>) -> fmt::Result {
+        OrDash(self.0.map(Value)).fmt(f)
+    }
+}
+
+impl fmt::Display for Value<LastTrade> {
     ghost output = { λ x. Some (trade_cell (Some x.0)) };
 
     fn fmt<W: fmt::Write>(&self, f: &mut fmt::Formatter<W>) -> fmt::Result {
@@ -41,9 +61,17 @@ impl fmt::Display for TradeCell {
 
 /// The settlement: its price, its trade date and how final it is.
 #[derive(Clone, Copy)]
-pub struct SettlementCell(pub Settlement);
+pub struct SettlementCell(pub Option<Settlement>);
 
 impl fmt::Display for SettlementCell {
+    ghost output = { λ x. Some (settlement_cell x.0) };
+
+    fn fmt<W: fmt::Write>(&self, f: &mut fmt::Formatter<W>) -> fmt::Result {
+        OrDash(self.0.map(Value)).fmt(f)
+    }
+}
+
+impl fmt::Display for Value<Settlement> {
     ghost output = { λ x. Some (settlement_cell (Some x.0)) };
 
     fn fmt<W: fmt::Write>(&self, f: &mut fmt::Formatter<W>) -> fmt::Result {
@@ -60,9 +88,17 @@ impl fmt::Display for SettlementCell {
 
 /// The price limits, the lower one first.
 #[derive(Clone, Copy)]
-pub struct LimitsCell(pub Limits);
+pub struct LimitsCell(pub Option<Limits>);
 
 impl fmt::Display for LimitsCell {
+    ghost output = { λ x. Some (limits_cell x.0) };
+
+    fn fmt<W: fmt::Write>(&self, f: &mut fmt::Formatter<W>) -> fmt::Result {
+        OrDash(self.0.map(Value)).fmt(f)
+    }
+}
+
+impl fmt::Display for Value<Limits> {
     ghost output = { λ x. Some (limits_cell (Some x.0)) };
 
     fn fmt<W: fmt::Write>(&self, f: &mut fmt::Formatter<W>) -> fmt::Result {

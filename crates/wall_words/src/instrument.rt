@@ -1,13 +1,20 @@
 // What an instrument is, in words.
+use crate::cell::Value;
 use market::Definition;
 use std::fmt;
-use wire_words::{Symbol, price};
+use wire_words::{OrDash, Symbol, price};
 
-/// A definition.
+/// A definition, or a dash where there is none.
 #[derive(Clone, Copy)]
-pub struct DefinitionCell(pub Definition);
+pub struct DefinitionCell(pub Option<Definition>);
 
 impl fmt::Display for DefinitionCell {
+    fn fmt<W: fmt::Write>(&self, f: &mut fmt::Formatter<W>) -> fmt::Result {
+        OrDash(self.0.map(Value)).fmt(f)
+    }
+}
+
+impl fmt::Display for Value<Definition> {
     fn fmt<W: fmt::Write>(&self, f: &mut fmt::Formatter<W>) -> fmt::Result {
         let definition = self.0;
         write!(

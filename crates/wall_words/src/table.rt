@@ -4,7 +4,7 @@ use crate::instrument::DefinitionCell;
 use market::Row;
 use std::alloc::{AllocError, Global};
 use std::fmt;
-use wire_words::{OrDash, Symbol};
+use wire_words::Symbol;
 
 /// A table with one line for each row.
 pub trait Table {
@@ -16,6 +16,7 @@ pub trait Table {
 }
 
 /// Symbol, status, bid, ask, last trade and volume.
+#[derive(Clone, Copy)]
 pub struct QuotesTable;
 
 impl Table for QuotesTable {
@@ -34,14 +35,13 @@ impl Table for QuotesTable {
     fn line(heap: Global, row: &Row) -> Result<String, AllocError> {
         let quotes = row.quotes;
         let symbol = Symbol(&row.symbol).to_string(heap)?;
-        let status = quotes.status.to_string(heap)?;
-        let bid = OrDash(quotes.bid.map(QuoteCell)).to_string(heap)?;
-        let ask = OrDash(quotes.ask.map(QuoteCell)).to_string(heap)?;
-        let last = OrDash(quotes.last.map(TradeCell)).to_string(heap)?;
+        let bid = QuoteCell(quotes.bid).to_string(heap)?;
+        let ask = QuoteCell(quotes.ask).to_string(heap)?;
+        let last = TradeCell(quotes.last).to_string(heap)?;
         let volume = quotes.volume.to_string(heap)?;
         let columns = QuotesColumns {
             symbol: symbol.as_str(),
-            status: status.as_str(),
+            status: quotes.status.word(),
             bid: bid.as_str(),
             ask: ask.as_str(),
             last: last.as_str(),
@@ -52,6 +52,7 @@ impl Table for QuotesTable {
 }
 
 /// Symbol, settlement, limits and definition.
+#[derive(Clone, Copy)]
 pub struct InstrumentsTable;
 
 impl Table for InstrumentsTable {
@@ -67,9 +68,9 @@ impl Table for InstrumentsTable {
 
     fn line(heap: Global, row: &Row) -> Result<String, AllocError> {
         let symbol = Symbol(&row.symbol).to_string(heap)?;
-        let settlement = OrDash(row.settlement.map(SettlementCell)).to_string(heap)?;
-        let limits = OrDash(row.limits.map(LimitsCell)).to_string(heap)?;
-        let definition = OrDash(row.definition.map(DefinitionCell)).to_string(heap)?;
+        let settlement = SettlementCell(row.settlement).to_string(heap)?;
+        let limits = LimitsCell(row.limits).to_string(heap)?;
+        let definition = DefinitionCell(row.definition).to_string(heap)?;
         let columns = InstrumentsColumns {
             symbol: symbol.as_str(),
             settlement: settlement.as_str(),

@@ -4,12 +4,15 @@ ghost use Rattle.wire.specs.Blocks.{checked, checked_for, header_rules, for_unit
 ghost use Rattle.wire.specs.Laws.{Accepted, FirstFault};
 ghost use Rattle.wire_reader.specs.Reading.{standing};
 ghost use Rattle.wire_types.specs.declared.fault.Layer.TheVariants as the_layer;
+ghost use Rattle.std.specs.Option.{unwrap_or};
 ghost use Rattle.std.specs.Prelude.{◌≡◌, length, MatchResult, slice_index};
 
 use wire_reader::Reader;
 use wire_types::{Block, Carrier, Fault, Header, Layer, Why};
 
 /// Accepts a block of the unit with its header, or tells the first fault.
+// Inlined, as `check_for` and `check_block` are, so that what a caller knows of the carrier and the unit is not asked again.
+#[inline(always)]
 pub fn check(unit: u8, block: Block<'_>) -> Result<Header, Fault>
     ensures value { answers (λ h. h) result ≡ checked block.entry.carrier unit block.entry.bytes.now }
     ensures law { MatchResult result (λ h. Accepted block.entry.carrier unit block.entry.bytes.now h) (λ f. FirstFault block.entry.carrier unit block.entry.bytes.now (refusal_of f)) }
@@ -18,10 +21,12 @@ pub fn check(unit: u8, block: Block<'_>) -> Result<Header, Fault>
 }
 
 /// Accepts a block of the unit, or else of the one that its own header names.
+#[inline(always)]
 pub fn check_for(unit: Option<u8>, block: Block<'_>) -> Result<Header, Fault>
-    ensures { answers (λ h. h) result ≡ checked_for block.entry.carrier unit block.entry.bytes.now }
+    ensures value { answers (λ h. h) result ≡ checked_for block.entry.carrier unit block.entry.bytes.now }
+    ensures law { MatchResult result (λ h. Accepted block.entry.carrier (unwrap_or unit (slice_index block.entry.bytes.now 3)) block.entry.bytes.now h) (λ f. FirstFault block.entry.carrier (unwrap_or unit (slice_index block.entry.bytes.now 3)) block.entry.bytes.now (refusal_of f)) }
 {
-    check_block(unit.unwrap_or(own_unit(block)), block)
+    check(unit.unwrap_or(own_unit(block)), block)
 }
 
 /// Hdr Unit, or 0 in a block that ends before it.
@@ -31,6 +36,7 @@ fn own_unit(block: Block<'_>) -> u8
     block.bytes.get(3).copied().unwrap_or(0)
 }
 
+#[inline(always)]
 fn check_block(unit: u8, block: Block<'_>) -> Result<Header, Fault>
     ensures { answers (λ h. h) result ≡ checked block.entry.carrier unit block.entry.bytes.now }
 {

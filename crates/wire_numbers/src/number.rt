@@ -97,5 +97,5 @@ pub fn bytes_at<const N: usize>(m: &[u8], at: usize) -> &[u8; N]
     requires { at + N ≤ length m.now }
     ensures { result.now ≡ take N (drop at m.now) }
 {
-    m[at..].first_chunk().unwrap()
+    m[at..at + N].first_chunk().unwrap()
 }

@@ -67,14 +67,23 @@ impl Code for Side {
     }
 }
 
+impl Side {
+    /// The word by which the code is told.
+    pub fn word(self) -> &'static str
+        ensures { result.now ≡ side_word self }
+    {
+        match self {
+            Side::Bid => "bid",
+            Side::Ask => "ask",
+        }
+    }
+}
+
 impl fmt::Display for Side {
     ghost output = { λ x. Some (side_word x) };
 
     fn fmt<W: fmt::Write>(&self, f: &mut fmt::Formatter<W>) -> fmt::Result {
-        f.write_str(match self {
-            Side::Bid => "bid",
-            Side::Ask => "ask",
-        })
+        f.write_str(self.word())
     }
 }
 
@@ -122,16 +131,25 @@ impl Code for Status {
     }
 }
 
-impl fmt::Display for Status {
-    ghost output = { λ x. Some (status_word x) };
-
-    fn fmt<W: fmt::Write>(&self, f: &mut fmt::Formatter<W>) -> fmt::Result {
-        f.write_str(match self {
+impl Status {
+    /// The word by which the code is told.
+    pub fn word(self) -> &'static str
+        ensures { result.now ≡ status_word self }
+    {
+        match self {
             Status::Suspended => "suspended",
             Status::Queuing => "queuing",
             Status::Trading => "trading",
             Status::Halted => "halted",
-        })
+        }
+    }
+}
+
+impl fmt::Display for Status {
+    ghost output = { λ x. Some (status_word x) };
+
+    fn fmt<W: fmt::Write>(&self, f: &mut fmt::Formatter<W>) -> fmt::Result {
+        f.write_str(self.word())
     }
 }
 
@@ -188,11 +206,12 @@ impl Code for Condition {
     }
 }
 
-impl fmt::Display for Condition {
-    ghost output = { λ x. Some (condition_word x) };
-
-    fn fmt<W: fmt::Write>(&self, f: &mut fmt::Formatter<W>) -> fmt::Result {
-        f.write_str(match self {
+impl Condition {
+    /// The word by which the code is told.
+    pub fn word(self) -> &'static str
+        ensures { result.now ≡ condition_word self }
+    {
+        match self {
             Condition::Normal => "normal",
             Condition::Opening => "opening",
             Condition::Spread => "spread",
@@ -200,7 +219,15 @@ impl fmt::Display for Condition {
             Condition::Ecrp => "ECRP",
             Condition::Break => "break",
             Condition::Derived => "derived",
-        })
+        }
+    }
+}
+
+impl fmt::Display for Condition {
+    ghost output = { λ x. Some (condition_word x) };
+
+    fn fmt<W: fmt::Write>(&self, f: &mut fmt::Formatter<W>) -> fmt::Result {
+        f.write_str(self.word())
     }
 }
 
@@ -248,16 +275,25 @@ impl Code for Issue {
     }
 }
 
-impl fmt::Display for Issue {
-    ghost output = { λ x. Some (issue_word x) };
-
-    fn fmt<W: fmt::Write>(&self, f: &mut fmt::Formatter<W>) -> fmt::Result {
-        f.write_str(match self {
+impl Issue {
+    /// The word by which the code is told.
+    pub fn word(self) -> &'static str
+        ensures { result.now ≡ issue_word self }
+    {
+        match self {
             Issue::Periodic => "periodic",
             Issue::Indicative => "indicative",
             Issue::Initial => "initial",
             Issue::Reissued => "re-issued",
-        })
+        }
+    }
+}
+
+impl fmt::Display for Issue {
+    ghost output = { λ x. Some (issue_word x) };
+
+    fn fmt<W: fmt::Write>(&self, f: &mut fmt::Formatter<W>) -> fmt::Result {
+        f.write_str(self.word())
     }
 }
 
@@ -302,14 +338,23 @@ impl Code for Listing {
     }
 }
 
+impl Listing {
+    /// The word by which the code is told.
+    pub fn word(self) -> &'static str
+        ensures { result.now ≡ listing_word self }
+    {
+        match self {
+            Listing::Active => "active",
+            Listing::Inactive => "inactive",
+            Listing::Test => "test",
+        }
+    }
+}
+
 impl fmt::Display for Listing {
     ghost output = { λ x. Some (listing_word x) };
 
     fn fmt<W: fmt::Write>(&self, f: &mut fmt::Formatter<W>) -> fmt::Result {
-        f.write_str(match self {
-            Listing::Active => "active",
-            Listing::Inactive => "inactive",
-            Listing::Test => "test",
-        })
+        f.write_str(self.word())
     }
 }

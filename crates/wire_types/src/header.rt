@@ -1,5 +1,5 @@
 // What stands in front of a block's messages.
-ghost use Rattle.std.specs.Prelude.{Some};
+ghost use Rattle.std.specs.Prelude.{◌≡◌, Some};
 ghost use Rattle.wire_types.specs.Words.{carrier_word};
 
 use std::fmt;
@@ -12,14 +12,23 @@ pub enum Carrier {
     Spin,
 }
 
+impl Carrier {
+    /// The words by which a block that comes so is told.
+    pub fn word(self) -> &'static str
+        ensures { result.now ≡ carrier_word self }
+    {
+        match self {
+            Carrier::Datagram => "datagram",
+            Carrier::Spin => "spin block",
+        }
+    }
+}
+
 impl fmt::Display for Carrier {
     ghost output = { λ x. Some (carrier_word x) };
 
     fn fmt<W: fmt::Write>(&self, f: &mut fmt::Formatter<W>) -> fmt::Result {
-        f.write_str(match self {
-            Carrier::Datagram => "datagram",
-            Carrier::Spin => "spin block",
-        })
+        f.write_str(self.word())
     }
 }
 

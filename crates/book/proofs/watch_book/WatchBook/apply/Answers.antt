@@ -3,7 +3,7 @@ use Rattle.std.proofs.lemmas.Bool.{both_ways}
 use Rattle.std.proofs.lemmas.Bool.Decides.{Decides-eqb}
 use Rattle.std.proofs.lemmas.Slice.Eq.{slice_eq-Decides}
 use Rattle.market.specs.Aims.{does}
-use Rattle.market.specs.Effects.{edited}
+use Rattle.market.specs.Effects.{edited, new_row}
 use Rattle.book.proofs.Watches.{on_nothing, on_clock, on_every_row, on_own_row, on_other_row}
 use Rattle.book.proofs.watch_book.WatchBook.apply.Goals as goal
 
@@ -33,13 +33,24 @@ returns-in_default c =
     let o = on_every_row w c.args.message.now e c.hear-message.ensures w.row c.in-EveryRow.ensures none in
     record { answer = o.answer; effect = o.effect }
 
-pub returns-then-eq : goal.returns-then-eq
-returns-then-eq c =
+pub returns-in-Some-row : goal.returns-in-Some-row
+returns-in-Some-row c =
     let w = c.args.self.now in
     let e = does c.hear-message.result in
-    let equal = slice_eq-Decides Decides-eqb c.in-Row.symbol.now w.symbol c.eq.result c.eq.ensures in
-    let made = c.edit-then-eq.ensures ∙ ap (edited e) (c.unwrap_or-row.ensures ∙ ap (unwrap_or w.row) c.new.ensures) in
-    let o = on_own_row w c.args.message.now e c.hear-message.ensures c.in-Row.symbol.now _ c.in-Row.ensures (sym (equal.0 c.if-eq.true)) made in
+    let s = c.in-Row.symbol.now in
+    let equal = slice_eq-Decides Decides-eqb s w.symbol c.eq.result c.eq.ensures in
+    let made = c.edit-in-Some-row.ensures ∙ ap (λ r. edited e (unwrap_or r (new_row s))) (sym c.in-Some-row.is) in
+    let o = on_own_row w c.args.message.now e c.hear-message.ensures s _ c.in-Row.ensures (sym (equal.0 c.if-eq.true)) made in
+    record { answer = o.answer; effect = o.effect }
+
+pub returns-in-None : goal.returns-in-None
+returns-in-None c =
+    let w = c.args.self.now in
+    let e = does c.hear-message.result in
+    let s = c.in-Row.symbol.now in
+    let equal = slice_eq-Decides Decides-eqb s w.symbol c.eq.result c.eq.ensures in
+    let made = c.edit-in-None.ensures ∙ ap (edited e) c.new-row.ensures ∙ ap (λ r. edited e (unwrap_or r (new_row s))) (sym c.in-None.is) in
+    let o = on_own_row w c.args.message.now e c.hear-message.ensures s _ c.in-Row.ensures (sym (equal.0 c.if-eq.true)) made in
     record { answer = o.answer; effect = o.effect }
 
 pub returns-else-eq : goal.returns-else-eq
