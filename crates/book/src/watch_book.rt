@@ -1,10 +1,23 @@
 // A watch as a book.
 ghost use Rattle.book.specs.Views.{watch_ordered, watch_room, watch_view};
+ghost use Rattle.market.specs.Aims.{does};
+ghost use Rattle.market.specs.Effects.{edited, new_row};
 ghost use Rattle.std.proofs.Common.{lit≤};
+ghost use Rattle.std.specs.Prelude.{◌≡◌};
 
 use crate::book::{Book, fill};
 use crate::watch::Watch;
 use market::{Clock, Row, Target, hear};
+use wire_types::Message;
+
+/// A new row of the symbol, with what the message says.
+fn make(symbol: &[u8; 6], message: &Message<'_>) -> Row
+    ensures { result ≡ edited (does message.now) (new_row symbol.now) }
+{
+    let mut row = Row::new(symbol);
+    row.edit(message);
+    row
+}
 
 impl Book for Watch {
     ghost view = { watch_view };
@@ -34,11 +47,7 @@ impl Book for Watch {
                 if *symbol == self.symbol {
                     match &mut self.row {
                         Some(row) => row.edit(&message),
-                        None => {
-                            let mut row = Row::new(symbol);
-                            row.edit(&message);
-                            self.row = Some(row);
-                        }
+                        None => self.row = Some(make(symbol, &message)),
                     }
                 }
             }

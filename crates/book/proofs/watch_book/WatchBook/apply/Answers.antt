@@ -49,7 +49,7 @@ returns-in-None c =
     let e = does c.hear-message.result in
     let s = c.in-Row.symbol.now in
     let equal = slice_eq-Decides Decides-eqb s w.symbol c.eq.result c.eq.ensures in
-    let made = c.edit-in-None.ensures ∙ ap (edited e) c.new-row.ensures ∙ ap (λ r. edited e (unwrap_or r (new_row s))) (sym c.in-None.is) in
+    let made = c.make.ensures ∙ ap (λ r. edited e (unwrap_or r (new_row s))) (sym c.in-None.is) in
     let o = on_own_row w c.args.message.now e c.hear-message.ensures s _ c.in-Row.ensures (sym (equal.0 c.if-eq.true)) made in
     record { answer = o.answer; effect = o.effect }
 
