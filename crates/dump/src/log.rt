@@ -1,4 +1,6 @@
 // What is said of a recording, line by line.
+ghost use Rattle.std.specs.Prelude.{◌≡◌, [], string_bytes};
+
 use recording::{BadLine, Heard, Listener, Tally};
 use std::alloc::{AllocError, Global};
 use wire_report::{Indented, describe};
@@ -12,7 +14,9 @@ pub struct Log {
 }
 
 impl Log {
-    pub fn new(heap: Global) -> Log {
+    pub fn new(heap: Global) -> Log
+        ensures { string_bytes result.text ≡ [] }
+    {
         Log {
             heap,
             text: String::new(heap),
@@ -20,15 +24,24 @@ impl Log {
         }
     }
 
-    pub fn text(&self) -> &str {
+    /// What has been said and not been printed.
+    pub fn text(&self) -> &str
+        ensures { result.now ≡ string_bytes self.now.text }
+    {
         self.text.as_str()
     }
 
-    pub fn clear(&mut self) {
+    /// Lets go of the text, once it is printed. The counts stay.
+    pub fn clear(&mut self)
+        ensures text { string_bytes self.new.text ≡ [] }
+        ensures tally { self.new.tally ≡ self.old.tally }
+    {
         self.text.clear();
     }
 
-    pub fn tally(&self) -> Tally {
+    pub fn tally(&self) -> Tally
+        ensures { result ≡ self.now.tally }
+    {
         self.tally
     }
 }

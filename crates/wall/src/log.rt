@@ -2,7 +2,7 @@
 ghost use Rattle.play.specs.Takes.{taken_in};
 ghost use Rattle.recording.specs.Lines.{line_of, unit_after};
 ghost use Rattle.recording.specs.Recordings.{unit_of};
-ghost use Rattle.std.specs.Prelude.{◌≡◌, OnOk};
+ghost use Rattle.std.specs.Prelude.{◌≡◌, [], OnOk, string_bytes};
 ghost use Rattle.wall.specs.Lines.{line_played};
 
 use crate::show::show_market;
@@ -31,7 +31,10 @@ pub struct Log<B> {
 }
 
 impl<B: Book> Log<B> {
-    pub fn new(heap: Global, book: B) -> Log<B> {
+    pub fn new(heap: Global, book: B) -> Log<B>
+        ensures text { string_bytes result.text ≡ [] }
+        ensures book { result.book ≡ book }
+    {
         Log {
             heap,
             book,
@@ -40,11 +43,19 @@ impl<B: Book> Log<B> {
         }
     }
 
-    pub fn text(&self) -> &str {
+    /// What has been said and not been printed.
+    pub fn text(&self) -> &str
+        ensures { result.now ≡ string_bytes self.now.text }
+    {
         self.text.as_str()
     }
 
-    pub fn clear(&mut self) {
+    /// Lets go of the text, once it is printed. The book and the counts stay.
+    pub fn clear(&mut self)
+        ensures text { string_bytes self.new.text ≡ [] }
+        ensures book { self.new.book ≡ self.old.book }
+        ensures total { self.new.total ≡ self.old.total }
+    {
         self.text.clear();
     }
 
