@@ -44,11 +44,11 @@ abbrev seen : Clock → List Row → List ℕ → View Market Kind
 seen c rs s = viewed c rs (watch_kind s)
 
 -- it finds the row of its own symbol, and no other
-pub find_is : (s k : List ℕ) (o : Option Row) (b : Bool) → ForSome o (λ r. r.symbol ≡ k) → Decides b (s ≡ k) → lookup s (option_to_list o) ≡ cond b o None
+pub find_is : (s k : List ℕ) (o : Option Row) (b : Bool) → ForSome o (λ r. r.symbol ≡ k) → Decides b (k ≡ s) → lookup s (option_to_list o) ≡ cond b o None
 find_is s k None true own is = look_none s
 find_is s k None false own is = look_none s
-find_is s k (Some r) true own is = look_at s r [] (own r refl ∙ sym (is.0 refl))
-find_is s k (Some r) false own is = look_on s r [] (λ e. both_ways false refl (is.1 (sym e ∙ own r refl))) ∙ look_none s
+find_is s k (Some r) true own is = look_at s r [] (own r refl ∙ is.0 refl)
+find_is s k (Some r) false own is = look_on s r [] (λ e. both_ways false refl (is.1 (sym (own r refl) ∙ e))) ∙ look_none s
 
 -- ---- what a message makes of it
 
@@ -75,14 +75,15 @@ module _ (w : Watch) (x : List ℕ) (e : Effect) (is : e ≡ heard x) where
       let out = fits at_every_row to in
       record { answer = out.answer; effect = ap (λ rs. seen w.clock rs w.symbol) edit ∙ out.effect }
 
-  pub on_own_row : (s : List ℕ) (r : Row) → at_row s ≡ aim e → w.symbol ≡ s → r ≡ edited e (unwrap_or w.row (new_row s)) → Outcome (watch_view w) x true (seen w.clock (r ∷ []) w.symbol)
-  on_own_row s r to own edit =
+  pub on_own_row : (s : List ℕ) (row : Option Row) (r : Row) → at_row s ≡ aim e → w.symbol ≡ s → w.row ≡ row → r ≡ edited e (unwrap_or row (new_row s)) → Outcome (watch_view w) x true (seen w.clock (r ∷ []) w.symbol)
+  on_own_row s row r to own is edit =
       let o = fits (at_row s) to in
       let m = (watch_view w).market in
+      let set : r ≡ edited e (unwrap_or w.row (new_row s)) = rw is edit in
       record {
         answer = o.answer;
         effect =
-            ap (λ rs. seen w.clock rs w.symbol) (ap (λ q. q ∷ []) edit ∙ upsert_own s w.symbol (edited e) w.row w.own own)
+            ap (λ rs. seen w.clock rs w.symbol) (ap (λ q. q ∷ []) set ∙ upsert_own s w.symbol (edited e) w.row w.own own)
             ∙ ap (with_market (watch_view w)) (sym (cond-true (same w.symbol s) (with_rows (upsert s (edited e) m.rows) m) m (same_from w.symbol s own)))
             ∙ o.effect;
       }

@@ -3,7 +3,7 @@ ghost use Rattle.book.specs.Views.{watch_ordered, watch_room, watch_view};
 ghost use Rattle.market.specs.Aims.{does};
 ghost use Rattle.market.specs.Effects.{edited, new_row};
 ghost use Rattle.std.proofs.Common.{lit≤};
-ghost use Rattle.std.specs.Prelude.{◌≡◌};
+ghost use Rattle.std.specs.Prelude.{◌≡◌, Decides};
 
 use crate::book::{Book, fill};
 use crate::watch::Watch;
@@ -17,6 +17,15 @@ fn make(symbol: &[u8; 6], message: &Message<'_>) -> Row
     let mut row = Row::new(symbol);
     row.edit(message);
     row
+}
+
+impl Watch {
+    /// Whether the watch follows the symbol.
+    fn follows(&self, symbol: &[u8; 6]) -> bool
+        ensures { Decides result (self.now.symbol ≡ symbol.now) }
+    {
+        self.symbol == *symbol
+    }
 }
 
 impl Book for Watch {
@@ -44,7 +53,7 @@ impl Book for Watch {
                 }
             }
             Target::Row(symbol) => {
-                if *symbol == self.symbol {
+                if self.follows(symbol) {
                     match &mut self.row {
                         Some(row) => row.edit(&message),
                         None => self.row = Some(make(symbol, &message)),
@@ -56,7 +65,7 @@ impl Book for Watch {
     }
 
     fn find(&mut self, symbol: &[u8; 6], into: &mut Row) -> bool {
-        *symbol == self.symbol && fill(self.row.as_ref(), into)
+        self.follows(symbol) && fill(self.row.as_ref(), into)
     }
 
     fn row_at(&mut self, place: usize, into: &mut Row) -> bool {
@@ -72,6 +81,6 @@ impl Book for Watch {
     }
 
     fn same(&mut self, other: &mut Self) -> bool {
-        self.symbol == other.symbol
+        self.follows(&other.symbol)
     }
 }
