@@ -10,24 +10,6 @@ use crate::watch::Watch;
 use market::{Clock, Row, Target, hear};
 use wire_types::Message;
 
-/// A new row of the symbol, with what the message says.
-fn make(symbol: &[u8; 6], message: &Message<'_>) -> Row
-    ensures { result ≡ edited (does message.now) (new_row symbol.now) }
-{
-    let mut row = Row::new(symbol);
-    row.edit(message);
-    row
-}
-
-impl Watch {
-    /// Whether the watch follows the symbol.
-    fn follows(&self, symbol: &[u8; 6]) -> bool
-        ensures { Decides result (self.now.symbol ≡ symbol.now) }
-    {
-        self.symbol == *symbol
-    }
-}
-
 impl Book for Watch {
     ghost view = { watch_view };
 
@@ -83,4 +65,22 @@ impl Book for Watch {
     fn same(&mut self, other: &mut Self) -> bool {
         self.follows(&other.symbol)
     }
+}
+
+impl Watch {
+    /// Whether the watch follows the symbol.
+    fn follows(&self, symbol: &[u8; 6]) -> bool
+        ensures { Decides result (self.now.symbol ≡ symbol.now) }
+    {
+        self.symbol == *symbol
+    }
+}
+
+/// A new row of the symbol, with what the message says.
+fn make(symbol: &[u8; 6], message: &Message<'_>) -> Row
+    ensures { result ≡ edited (does message.now) (new_row symbol.now) }
+{
+    let mut row = Row::new(symbol);
+    row.edit(message);
+    row
 }
