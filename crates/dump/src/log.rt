@@ -1,7 +1,7 @@
 // What is said of a recording, line by line.
 ghost use Rattle.std.specs.Prelude.{◌≡◌, [], string_bytes};
 
-use recording::{BadLine, Heard, Listener, Tally};
+use recording::{BadLine, Collector, Heard, Tally};
 use std::alloc::{AllocError, Global};
 use wire_report::{Indented, describe};
 
@@ -46,7 +46,7 @@ impl Log {
     }
 }
 
-impl Listener for Log {
+impl Collector for Log {
     fn hear_block(&mut self, heard: Heard<'_>) -> Result<(), AllocError> {
         let report = describe(self.heap, heard.unit, heard.block)?;
         match report.messages {

@@ -37,7 +37,7 @@ fn dump<R: Read + Drop>(rt: &HostRuntime, input: R) -> anyhow::Result<()> {
         if input.read_until(b'\n', &mut line)? == 0 {
             break;
         }
-        recording.add_line(&mut log, number, line.as_slice())?;
+        recording.collect_line(&mut log, number, line.as_slice())?;
         if log.text().len() >= PIECE {
             out.write_all(log.text().as_bytes())?;
             log.clear();

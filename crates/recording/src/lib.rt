@@ -1,6 +1,7 @@
 // A recording of blocks as text: one block a line, as hex digits.
 #![tactic(auto)]
 
+mod collecting;
 mod hex;
 mod line;
 mod listening;
@@ -8,6 +9,7 @@ mod tally;
 mod text;
 mod unit;
 
+pub use collecting::Collector;
 pub use hex::{bytes_of_hex, nibble};
 pub use line::{BadLine, Line, parse_line};
 pub use listening::{Heard, Listener, PIECE, Recording};

@@ -1,6 +1,6 @@
 // Blocks, what is said of them and what is expected.
 use bench::Bench;
-use recording::{BadLine, Heard, Listener};
+use recording::{BadLine, Collector, Heard};
 use std::alloc::{AllocError, Global};
 use std::str;
 use wire_report::describe;
@@ -42,7 +42,7 @@ impl Blocks {
     }
 }
 
-impl Listener for Blocks {
+impl Collector for Blocks {
     fn hear_block(&mut self, heard: Heard<'_>) -> Result<(), AllocError> {
         let report = describe(self.heap, heard.unit, heard.block)?;
         self.bench.begin(heard.number, report.text)

@@ -23,7 +23,7 @@ fn run(rt: &HostRuntime) -> anyhow::Result<()> {
         }
         match line.strip_prefix(b"= ") {
             Some(expected) => blocks.expect(number, expected)?,
-            None => recording.add_line(&mut blocks, number, line.as_slice())?,
+            None => recording.collect_line(&mut blocks, number, line.as_slice())?,
         }
     }
     blocks.close()?;

@@ -8,7 +8,7 @@ ghost use Rattle.wall.specs.Lines.{line_played};
 use crate::show::show_market;
 use book::Book;
 use play::{Taken, take_block};
-use recording::{BadLine, Heard, Listener, Recording, Tally};
+use recording::{BadLine, Collector, Heard, Recording, Tally};
 use std::alloc::{AllocError, Global};
 
 /// How many blocks, messages and lines there were, by what became of them.
@@ -69,7 +69,7 @@ impl<B: Book> Log<B> {
         ensures unit { OnOk result (unit_of recording.new ≡ unit_after (line_of line.now) (unit_of recording.old)) }
         ensures book { OnOk result (B.view self.new.book ≡ line_played (line_of line.now) (unit_of recording.old) (B.view self.old.book)) }
     {
-        recording.add_line(self, number, line)
+        recording.collect_line(self, number, line)
     }
 
     /// The market, and what there was in the recording.
@@ -99,7 +99,7 @@ impl<B: Book> Log<B> {
     }
 }
 
-impl<B: Book> Listener for Log<B> {
+impl<B: Book> Collector for Log<B> {
     ghost block_gives = { λ s unit carrier bytes t. B.view t.book ≡ taken_in carrier unit bytes (B.view s.book) };
 
     ghost bad_gives = { λ s t. B.view t.book ≡ B.view s.book };
