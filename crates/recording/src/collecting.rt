@@ -22,7 +22,7 @@ pub trait Collector {
         ensures { OnOk result (bad_gives self.old self.new) };
 }
 
-/// A listener as a collector. What the listener fails of is kept for the caller.
+/// A listener as a collector. The error with which the listener fails is kept for the caller.
 #[derive(Drop)]
 pub(crate) struct Relay<'a, L> {
     pub(crate) listener: &'a mut L,

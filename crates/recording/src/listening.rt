@@ -78,7 +78,7 @@ impl Recording {
             failure: None,
         };
         let heard = self.collect_line(&mut relay, number, line);
-        heard.map_err(|failed| relay.failure.unwrap_or(failed.into()))
+        heard.map_err(|failed| relay.failure.unwrap_or_else(|| failed.into()))
     }
 
     /// Reads a line as `add_line` does, to what collects what it has to say.
@@ -175,7 +175,7 @@ mod tests {
         Ok(())
     }
 
-    /// A listener that fails of a block as its pipe does, and of any other line as its file does.
+    /// A listener that fails at a block as its pipe does, and at a line that says nothing as its file does.
     #[derive(Drop)]
     struct Broken;
 
