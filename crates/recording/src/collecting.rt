@@ -29,7 +29,7 @@ pub(crate) struct Relay<'a, L> {
     pub(crate) failure: Option<io::Error>,
 }
 
-// The listener does as it promises, and is still the caller's.
+// Where it succeeds, the listener has done as it promises, and by the loan's ghost name it is still the caller's own.
 impl<L: Listener> Collector for Relay<'_, L> {
     ghost block_gives = { λ s unit carrier bytes t. (t.listener.ghost_name ≡ s.listener.ghost_name) × L.block_gives s.listener.now unit carrier bytes t.listener.now };
 

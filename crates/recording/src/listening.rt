@@ -1,7 +1,7 @@
 // A recording, line by line, and what listens to it.
 ghost use Rattle.recording.specs.Lines.{line_of, unit_after};
 ghost use Rattle.recording.specs.Listening.{Hears, heading};
-ghost use Rattle.std.specs.Prelude.{◌≡◌, ℕ, List, Option, None, Some, OnOk, length};
+ghost use Rattle.std.specs.Prelude.{◌≡◌, ℕ, List, Option, None, Some, OnErr, OnOk, length};
 ghost use Rattle.wire_types.specs.declared.header.Carrier.{Carrier};
 
 use crate::collecting::{Collector, Relay};
@@ -64,6 +64,7 @@ impl Recording {
     }
 
     /// Reads a line. Its block is heard, and so is a line that says nothing; a blank line and a unit are not.
+    /// Where the call fails, the unit stays as it was.
     pub fn add_line<L: Listener>(
         &mut self,
         listener: &mut L,
@@ -72,6 +73,7 @@ impl Recording {
     ) -> io::Result<()>
         ensures unit { OnOk result (unit_of self.new ≡ unit_after (line_of line.now) (unit_of self.old)) }
         ensures heard { OnOk result (Hears L.block_gives L.bad_gives (line_of line.now) (unit_of self.old) listener.old listener.new) }
+        ensures kept { OnErr result (unit_of self.new ≡ unit_of self.old) }
     {
         let mut relay = Relay {
             listener,
@@ -90,6 +92,7 @@ impl Recording {
     ) -> Result<(), AllocError>
         ensures unit { OnOk result (unit_of self.new ≡ unit_after (line_of line.now) (unit_of self.old)) }
         ensures heard { OnOk result (Hears L.block_gives L.bad_gives (line_of line.now) (unit_of self.old) listener.old listener.new) }
+        ensures kept { OnErr result (unit_of self.new ≡ unit_of self.old) }
     {
         match parse_line(self.heap, line) {
             Ok(Line::Blank) => Ok(()),
